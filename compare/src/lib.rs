@@ -1,0 +1,39 @@
+//! An independent implementation of document 01 in plain Rust.
+//!
+//! It was written from the document alone and shares no code with the product.
+//! Nothing here is proved. It makes the stored vectors of the gate, and it is
+//! the other side when the product is compared on random and damaged input.
+//!
+//! Each program takes a folder and writes two files into it: `stdin`, the
+//! input of a program under test, and `stdout`, the output expected of it.
+//! They take no other input and give the same bytes on every run.
+//!
+//! - `cargo run --release --bin division_vectors FOLDER`: "Dividing". A vector
+//!   is the count (16 bits), the total (32 bits) and the weights (64 bits
+//!   each); its line holds the shares.
+//! - `cargo run --release --bin sheet_vectors FOLDER`: refusals 1 to 7. A
+//!   vector is a length (16 bits) and that many bytes; its line is `0 0` or
+//!   number and place.
+//! - `cargo run --release --bin month_vectors FOLDER`: whole months, vectors as
+//!   before; the lines are those of "Printing".
+//!
+//! All numbers in `stdin` are little-endian. `cargo test --release` runs the
+//! document's cases and the random checks.
+
+pub mod apportion;
+pub mod book;
+pub mod calls;
+pub mod cases;
+pub mod damage;
+pub mod plain_book;
+pub mod portions;
+pub mod print;
+pub mod record;
+pub mod refusal;
+pub mod rng;
+pub mod samples;
+pub mod settle;
+pub mod sheet;
+pub mod vectors;
+pub mod weights;
+pub mod whole;

@@ -1,0 +1,65 @@
+//! Document 01, "Refused sheets and calls": numbers and places.
+
+/// A refusal's number, and its place: the row for 6 and 7, else 0.
+#[derive(Clone, Copy, Debug, PartialEq, Eq)]
+pub struct Refusal {
+    pub number: u32,
+    pub place: u32,
+}
+
+/// stub
+pub const TOO_SHORT: u32 = 1;
+/// mark
+pub const BAD_MAGIC: u32 = 2;
+/// version
+pub const UNSUPPORTED_VERSION: u32 = 3;
+/// header
+pub const HEADER_FIELD: u32 = 4;
+/// length
+pub const WRONG_LENGTH: u32 = 5;
+/// row
+pub const ROW_FIELD: u32 = 6;
+/// order
+pub const ID_ORDER: u32 = 7;
+/// water
+pub const HOT_WATER_EXCEEDS_METER: u32 = 8;
+/// divisor
+pub const ZERO_DIVISOR: u32 = 9;
+/// unread
+pub const NO_READINGS: u32 = 10;
+/// calorimeters
+pub const METERS_EXCEED_HEAT: u32 = 11;
+/// overcharge
+pub const UNMETERED_EXCEEDS_HEAT: u32 = 12;
+/// list
+pub const BUFFER_LENGTH: u32 = 13;
+/// archive
+pub const BAD_ARCHIVE: u32 = 14;
+/// book
+pub const BAD_YEAR_BOOK: u32 = 15;
+/// building
+pub const OTHER_BUILDING: u32 = 16;
+/// month
+pub const MONTH_STATE: u32 = 17;
+/// place
+pub const NO_SUCH_UNIT: u32 = 18;
+
+/// A refusal at place 0.
+pub fn refuse<T>(number: u32) -> Result<T, Refusal> {
+    refuse_at(number, 0)
+}
+
+/// A refusal at the row `row`.
+pub fn refuse_at<T>(number: u32, row: usize) -> Result<T, Refusal> {
+    let place = row as u32;
+    Err(Refusal { number, place })
+}
+
+/// `refuse(number)` when `fault` holds.
+pub fn refuse_if(fault: bool, number: u32) -> Result<(), Refusal> {
+    if fault {
+        refuse(number)
+    } else {
+        Ok(())
+    }
+}

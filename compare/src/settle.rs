@@ -1,0 +1,172 @@
+//! Document 01, "Steps of a month": the settlement and refusals 8 to 13.
+
+use crate::apportion::apportion;
+use crate::refusal::*;
+use crate::sheet::{check, read_sheet, Sheet, ROW_BYTES};
+use crate::weights::*;
+
+/// A settled month. `numbers` is the statement, eight numbers a unit.
+#[derive(Clone, Debug, PartialEq, Eq)]
+pub struct Outcome {
+    pub month: u8,
+    pub unit_count: usize,
+    pub ids: Vec<u32>,
+    pub shared_meter_wh: u32,
+    pub bill_cents: u32,
+    pub numbers: Vec<u32>,
+}
+
+/// Settles a sheet for a statement list of `list_len` numbers: refusals 1 to 13.
+pub fn settle(bytes: &[u8], list_len: usize) -> Result<Outcome, Refusal> {
+    let outcome = settle_bytes(bytes)?;
+    refuse_if(list_len != 8 * outcome.unit_count, BUFFER_LENGTH)?;
+    Ok(outcome)
+}
+
+/// Settles a sheet: refusals 1 to 12.
+pub fn settle_bytes(bytes: &[u8]) -> Result<Outcome, Refusal> {
+    check(bytes, ROW_BYTES)?;
+    settle_sheet(&read_sheet(bytes))
+}
+
+/// Settles a sheet that passed the check: refusals 8 to 12.
+pub fn settle_sheet(sheet: &Sheet) -> Result<Outcome, Refusal> {
+    check_month(sheet)?;
+    let bill_cents = bill(sheet);
+    let energies = energies(sheet);
+    let costs = costs(bill_cents, &energies);
+    let numbers = energies
+        .iter()
+        .zip(&costs)
+        .flat_map(|(wh, cents)| [*wh, *cents]);
+    Ok(Outcome {
+        month: sheet.header.month,
+        unit_count: sheet.units.len(),
+        ids: sheet.units.iter().map(|unit| unit.id).collect(),
+        shared_meter_wh: sheet.header.shared_meter_wh,
+        bill_cents,
+        numbers: numbers.flatten().collect(),
+    })
+}
+
+/// Step 1: hot water, rounded up. It may pass the upper end of an amount;
+/// then it passes the shared meter too.
+pub fn hot_water_wh(sheet: &Sheet) -> u64 {
+    let (upper, lower) = hot_water(&sheet.header);
+    upper.div_ceil(lower)
+}
+
+/// Step 1: EG = M − H.
+fn space_heat(sheet: &Sheet) -> u64 {
+    u64::from(sheet.header.shared_meter_wh) - hot_water_wh(sheet)
+}
+
+/// Refusals 8 to 12.
+fn check_month(sheet: &Sheet) -> Result<(), Refusal> {
+    let shared_meter_wh = u64::from(sheet.header.shared_meter_wh);
+    refuse_if(
+        hot_water_wh(sheet) > shared_meter_wh,
+        HOT_WATER_EXCEEDS_METER,
+    )?;
+    refuse_if(zero_divisor(sheet), ZERO_DIVISOR)?;
+    if sheet.header.model <= 2 {
+        return Ok(());
+    }
+    refuse_if(read_places(sheet).is_empty(), NO_READINGS)?;
+    let metered_sum = sum(&sheet.units, reading);
+    let meters_exceed = all_metered(sheet) && metered_sum > space_heat(sheet);
+    refuse_if(meters_exceed, METERS_EXCEED_HEAT)?;
+    let unread_sum: u64 = unread_weights(sheet).iter().sum();
+    refuse_if(unread_sum > whole_weight(sheet), UNMETERED_EXCEEDS_HEAT)
+}
+
+/// Refusal 9.
+fn zero_divisor(sheet: &Sheet) -> bool {
+    let classes = water_classes(sheet);
+    let no_water_divisor = classes.volume_units + classes.person_units == 0
+        || (classes.volume_units > 0 && classes.litres == 0)
+        || (classes.person_units > 0 && classes.persons == 0)
+        || (sheet.header.common_water_percent > 0 && classes.all_persons == 0);
+    let no_heat_divisor = match sheet.header.model {
+        1 => sum(&sheet.units, heat_load) == 0,
+        4 => {
+            sum(
+                sheet.units.iter().filter(|unit| is_read(unit)),
+                riser_surface,
+            ) == 0
+        }
+        _ => false,
+    };
+    (hot_water_wh(sheet) > 0 && no_water_divisor) || no_heat_divisor
+}
+
+/// Divides `total` by (100 − percent, percent).
+fn split(total: u64, percent: u8) -> (u64, u64) {
+    let percent = u64::from(percent);
+    let parts = apportion(total, &[100 - percent, percent]);
+    (u64::from(parts[0]), u64::from(parts[1]))
+}
+
+/// Steps 2 to 6: per unit heat, common heat, water, common water.
+fn energies(sheet: &Sheet) -> Vec<[u32; 4]> {
+    let (heat, common_heat) = if all_metered(sheet) {
+        let heat = sheet.units.iter().map(|unit| unit.reading).collect();
+        (heat, space_heat(sheet) - sum(&sheet.units, reading))
+    } else {
+        let percent = sheet.header.common_heat_percent;
+        let (unit_heat, common_heat) = split(space_heat(sheet), percent);
+        (heat_parts(sheet, unit_heat), common_heat)
+    };
+    let percent = sheet.header.common_water_percent;
+    let (unit_water, common_water) = split(hot_water_wh(sheet), percent);
+
+    let common_heat = apportion(common_heat, &column(sheet, heated_area));
+    let water = apportion(unit_water, &unit_water_weights(sheet));
+    let common_water = apportion(common_water, &common_water_weights(sheet));
+    (0..sheet.units.len())
+        .map(|i| [heat[i], common_heat[i], water[i], common_water[i]])
+        .collect()
+}
+
+/// Steps 3 and 4: each unit's heat.
+fn heat_parts(sheet: &Sheet, unit_heat: u64) -> Vec<u32> {
+    match sheet.header.model {
+        1 => apportion(unit_heat, &column(sheet, heat_load)),
+        2 => apportion(unit_heat, &column(sheet, heated_area)),
+        _ => metered_heat_parts(sheet, unit_heat),
+    }
+}
+
+/// Steps 3 and 4, models 3 to 5: first the units not read with the metered
+/// pool ("the rest") as last item, then the pool over the read units.
+fn metered_heat_parts(sheet: &Sheet, unit_heat: u64) -> Vec<u32> {
+    let mut heat = vec![0; sheet.units.len()];
+    let mut weights = unread_weights(sheet);
+    weights.push(whole_weight(sheet) - weights.iter().sum::<u64>());
+    let mut parts = apportion(unit_heat, &weights);
+    let metered_pool = parts.pop().expect("the pool is the last item");
+    for (place, part) in unread_places(sheet).into_iter().zip(parts) {
+        heat[place] = part;
+    }
+    let parts = apportion(u64::from(metered_pool), &read_weights(sheet));
+    for (place, part) in read_places(sheet).into_iter().zip(parts) {
+        heat[place] = part;
+    }
+    heat
+}
+
+/// Step 7: M × price / 1,000,000 in cents, half up.
+pub fn bill(sheet: &Sheet) -> u32 {
+    let cost = u64::from(sheet.header.shared_meter_wh) * u64::from(sheet.header.price);
+    let cents = (cost + 500_000) / 1_000_000;
+    u32::try_from(cents).expect("at most 400,000,000")
+}
+
+/// Step 7: the bill over the 4n energies, unit by unit.
+fn costs(bill_cents: u32, energies: &[[u32; 4]]) -> Vec<[u32; 4]> {
+    let weights: Vec<u64> = energies.iter().flatten().map(|&wh| u64::from(wh)).collect();
+    apportion(u64::from(bill_cents), &weights)
+        .chunks(4)
+        .map(|four| [four[0], four[1], four[2], four[3]])
+        .collect()
+}

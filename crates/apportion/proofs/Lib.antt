@@ -1,0 +1,8 @@
+-- The laws of dividing, and what the proofs of its functions share.
+pub mod Counting
+pub mod Takers
+pub mod Leftover
+pub mod Laws
+pub mod Wide
+pub mod Steps
+pub mod Plan

@@ -1,0 +1,42 @@
+-- One more item of a list, at the code's i + 1. Assumes nothing.
+use mathlib.Core.Path.{_≡_, sym, ap, ap₂, _∙_}
+use mathlib.Core.List.{List, [], _∷_, _++_, map, append-nil}
+use Prim.Native.Nat.{ℕ, _+_, _≤_, _<_}
+use native.Mathlib.Numerals.{add-one}
+use native.Mathlib.Omega.{arith}
+use lib.ListN.{length, getD, take, drop, set, drop-of-length-le}
+use lib.Seq.{drop-cons, take-suc, take-suc-set, append-snoc, take-all, drop-set-lt}
+use Rattle.apportion.specs.Shares.{added}
+use Rattle.apportion.specs.Selection.{one, spareAfter, given}
+
+pub next-drop : (xs : List ℕ) (i : ℕ) → i < length xs → drop i xs ≡ getD xs i 0 ∷ drop (i + 1) xs
+next-drop xs i h = rw (add-one, drop-cons xs i 0)
+
+pub next-take : (xs : List ℕ) (i : ℕ) → i < length xs → take (i + 1) xs ≡ take i xs ++ (getD xs i 0 ∷ [])
+next-take xs i h = rw (add-one, take-suc xs i 0)
+
+stored : (out : List ℕ) (i a : ℕ) (r : List ℕ) → i < length out → take (i + 1) (set out i a) ++ r ≡ take i out ++ (a ∷ r)
+stored out i a r h = rw (add-one, take-suc-set out i a h) (append-snoc (take i out) a r)
+
+-- a list written from the front is whole once nothing is left to write
+pub whole-list : (out xs g : List ℕ) (i : ℕ) → length xs ≤ i → length out ≡ length xs → (f : List ℕ → List ℕ) → f [] ≡ [] → take i out ++ f (drop i xs) ≡ g → out ≡ g
+whole-list out xs g i h e f z p =
+    sym (take-all i out (omega arith)) ∙ sym (append-nil (take i out)) ∙ ap (λ (r : List ℕ). take i out ++ r) (sym (ap f (drop-of-length-le xs h) ∙ z)) ∙ p
+
+-- one more item written, of a list made item by item from another
+pub turn-map : (f : ℕ → ℕ) (ws out g : List ℕ) (i v : ℕ) → i < length ws → i < length out → v ≡ f (getD ws i 0)
+    → take i out ++ map f (drop i ws) ≡ g → take (i + 1) (set out i v) ++ map f (drop (i + 1) ws) ≡ g
+turn-map f ws out g i v hw ho e p =
+    stored out i v (map f (drop (i + 1) ws)) ho ∙ ap (λ (x : ℕ). take i out ++ (x ∷ map f (drop (i + 1) ws))) e ∙ ap (λ (r : List ℕ). take i out ++ map f r) (sym (next-drop ws i hw)) ∙ p
+
+-- one more item given its part of the leftover
+pub turn-given : (θ s : ℕ) (ks out g : List ℕ) (i b t : ℕ) → i < length ks → i < length out → b ≡ one θ s (getD ks i 0) → t ≡ spareAfter θ s (getD ks i 0)
+    → take i out ++ added (drop i out) (given θ s (drop i ks)) ≡ g
+    → take (i + 1) (set out i (getD out i 0 + b)) ++ added (drop (i + 1) (set out i (getD out i 0 + b))) (given θ t (drop (i + 1) ks)) ≡ g
+turn-given θ s ks out g i b t hk ho eb et p =
+    let x = getD out i 0 in
+    stored out i (x + b) (added (drop (i + 1) (set out i (x + b))) (given θ t (drop (i + 1) ks))) ho
+    ∙ ap (λ (r : List ℕ). take i out ++ ((x + b) ∷ added r (given θ t (drop (i + 1) ks)))) (drop-set-lt (i + 1) out i (x + b) (omega arith))
+    ∙ ap₂ (λ (y : ℕ) (z : ℕ). take i out ++ ((x + y) ∷ added (drop (i + 1) out) (given θ z (drop (i + 1) ks)))) eb et
+    ∙ ap₂ (λ (r : List ℕ) (q : List ℕ). take i out ++ added r (given θ s q)) (sym (next-drop out i ho)) (sym (next-drop ks i hk))
+    ∙ p

@@ -1,0 +1,5 @@
+-- Dividing a whole by weights (document 01, "Dividing"): the largest-remainder method.
+pub mod Shares
+pub mod Fair
+pub mod Cases
+pub mod Selection

@@ -1,0 +1,55 @@
+-- What the functions promise that round down and that choose, without sorting, who gets the leftover.
+use mathlib.Core.Bool.{Bool, true, false}
+use mathlib.Core.Path.{_≡_}
+use mathlib.Core.List.{List, [], _∷_, _++_, map}
+use Prim.Native.Nat.{ℕ, suc, _+_, _-_, _≤_, max}
+use lib.Dec.{leb, ltb}
+use Rattle.apportion.specs.Shares.{sum, quota, remainder, bit, atLeast}
+
+-- the largest key, 0 if there is none
+abbrev pub largest : List ℕ → ℕ
+largest [] = 0
+largest (k ∷ ks) = max k (largest ks)
+
+-- the quotas, the remainders, the quotas' sum and the largest remainder
+pub record RoundedDown (total whole : ℕ) (ws : List ℕ) (down top : ℕ) (rests out : List ℕ) : Type 0 where
+  pub is-quotas : out ≡ map (quota total whole) ws
+  pub is-remainders : rests ≡ map (remainder total whole) ws
+  pub is-sum : down ≡ sum (map (quota total whole) ws)
+  pub is-largest : top ≡ largest (map (remainder total whole) ws)
+
+-- A count of the keys that reach m. No key lies from `below` up to m, nor from m up to `above`: the same keys reach all three.
+pub record Counted (m lo hi count below above : ℕ) (ks : List ℕ) : Type 0 where
+  pub is-count : count ≡ atLeast m ks
+  pub lo-le : lo ≤ below
+  pub below-le : below ≤ m
+  pub le-above : m ≤ above
+  pub le-hi : above ≤ hi
+  pub same-below : atLeast below ks ≡ atLeast m ks
+  pub same-above : atLeast above ks ≡ atLeast m ks
+
+-- one key more, whatever came before
+abbrev pub CountedWith : ℕ → ℕ → (count below above count′ below′ above′ : ℕ) → Type 0
+CountedWith m k count below above count′ below′ above′ =
+    (lo hi : ℕ) (ks : List ℕ) → Counted m lo hi count below above ks → Counted m lo hi count′ below′ above′ (ks ++ (k ∷ []))
+
+-- at most `left` keys are above θ, and at least `left` reach it
+abbrev pub Threshold : ℕ → ℕ → List ℕ → Type 0
+Threshold left θ ks = (atLeast (suc θ) ks ≤ left) × (left ≤ atLeast θ ks)
+
+-- x above θ, y at θ, z below it
+abbrev pub choose : Bool → Bool → ℕ → ℕ → ℕ → ℕ
+choose true b x y z = x
+choose false true x y z = y
+choose false false x y z = z
+
+-- one for a key above θ, and for a key at θ while there is one to spare
+abbrev pub one : ℕ → ℕ → ℕ → ℕ
+one θ spare k = choose (leb (suc θ) k) (leb θ k) 1 (bit (ltb 0 spare)) 0
+
+abbrev pub spareAfter : ℕ → ℕ → ℕ → ℕ
+spareAfter θ spare k = choose (leb (suc θ) k) (leb θ k) spare (spare - 1) spare
+
+abbrev pub given : ℕ → ℕ → List ℕ → List ℕ
+given θ spare [] = []
+given θ spare (k ∷ ks) = one θ spare k ∷ given θ (spareAfter θ spare k) ks

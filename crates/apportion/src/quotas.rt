@@ -1,0 +1,61 @@
+// The quotas and remainders of all items.
+ghost use mathlib.Core.Path.{_≡_};
+ghost use Prim.Native.Nat.{_^_, _≤_, _<_, max};
+ghost use lib.ListN.{length};
+ghost use Rattle.apportion.specs.Shares.{sum};
+ghost use Rattle.apportion.specs.Selection.{RoundedDown};
+use super::quotient::mul_div;
+
+pub(crate) fn sum_of(ws: &[u64]) -> u64
+    requires { ⌜ sum (now ws) < 2 ^ 62 ⌝ }
+    ensures { λ r. ⌜ r ≡ sum (now (ws .entry)) ⌝ }
+{
+    let mut s: u64 = 0;
+    let mut i = 0;
+    while i < ws.len() {
+        s += ws[i];
+        i += 1;
+    }
+    s
+}
+
+pub(crate) fn larger(a: u64, b: u64) -> u64
+    ensures { λ r. ⌜ r ≡ max a b ⌝ }
+{
+    if a < b { b } else { a }
+}
+
+// The sum of the quotas, and the largest remainder.
+pub struct Down {
+    pub sum: u64,
+    pub largest: u64,
+}
+
+// Writes the quotas and the remainders.
+pub(crate) fn round_down(
+    total: u64,
+    whole: u64,
+    ws: &[u64],
+    rests: &mut [u64],
+    out: &mut [u32],
+) -> Down
+    requires { ⌜ (total < 2 ^ 32) × (0 < whole) × (whole < 2 ^ 62) × (sum (now ws) ≤ whole) ⌝ }
+    requires { ⌜ (length (now rests) ≡ length (now ws)) × (length (now out) ≡ length (now ws)) ⌝ }
+    ensures { λ r. ⌜ RoundedDown total whole (now (ws .entry)) (r .sum) (r .largest) (now (rests .exit)) (now (out .exit)) ⌝ }
+{
+    let mut down: u64 = 0;
+    let mut top: u64 = 0;
+    let mut i = 0;
+    while i < ws.len() {
+        let o = mul_div(total, ws[i], whole);
+        rests[i] = o.remainder;
+        out[i] = o.quotient as u32;
+        down += o.quotient;
+        top = larger(top, o.remainder);
+        i += 1;
+    }
+    Down {
+        sum: down,
+        largest: top,
+    }
+}
