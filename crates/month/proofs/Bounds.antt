@@ -1,0 +1,197 @@
+-- The bounds of specs/Bounds.antt, for a sheet that passes 1 to 7. Assumes nothing.
+use mathlib.Core.Path.{_≡_}
+use mathlib.Core.Bool.{Bool, not, _||_}
+use mathlib.Core.Logic.{inl, inr}
+use mathlib.Core.List.{List, [], _∷_}
+use Prim.Native.Nat.{ℕ, zero, suc, _+_, _*_, _-_, _≤_, _<_}
+use native.Mathlib.Omega.{arith}
+use native.Mathlib.Nat.{mul-le-mul}
+use borrow.Author.Tests.{eqb-true}
+use lib.Dec.{eqb}
+use lib.ListN.{length, getD, take, length-take}
+use Rattle.apportion.specs.Shares.{sum}
+use Rattle.sheet.specs.Layout.{UnitRow, Sheet, waterReading}
+use Rattle.sheet.specs.Fits.{Each, UnitFits}
+use Rattle.month.specs.Weights.{those, sumOf, isRead, meteredSum, totalArea, unreadWeight, unreadWeights, poolWeight, readingSum, readArea, readSurface, limited, areaWeight, surfaceWeight, readWeight, readWeights, unitsOfClass, litresByVolume, personsByPersons, waterWeight, commonWaterWeight}
+use Rattle.month.specs.Steps.{hotWater}
+use Rattle.month.specs.Month.{hotWaterWh, billCents}
+use Rattle.month.specs.Accepted.{CheckedSheet}
+use Rattle.month.specs.Bounds.{SumBounds, UnitBounds, WeightBounds}
+use Rattle.month.proofs.Lists.{decided, sum-append, each-take}
+use Rattle.month.proofs.Accepted.{each-those}
+
+-- ---- sums
+module _ (P : UnitRow → Type 0) (f : UnitRow → ℕ) (b : ℕ) (le : (u : UnitRow) → P u → f u ≤ b) where
+  -- at most n units, each of which adds at most b
+  pub sum-at-most : (n : ℕ) (us : List UnitRow) → Each P us → length us ≤ n → sumOf f us ≤ n * b
+  sum-at-most n [] h l = omega arith
+  sum-at-most zero (u ∷ us) h l = absurd (omega arith)
+  sum-at-most (suc n) (u ∷ us) h l = omega (arith, le u (h .0), sum-at-most n us (h .1) (omega arith))
+
+pub those-fewer : (p : UnitRow → Bool) (us : List UnitRow) → length (those p us) ≤ length us
+those-fewer p [] = omega arith
+those-fewer p (u ∷ us) = elim (decided (p u)) [ inl e ↦ rw e (omega (arith, those-fewer p us)) | inr e ↦ rw e (omega (arith, those-fewer p us)) ]
+
+sum-of-readings : (n b : ℕ) (xs : List ℕ) → length xs ≡ n → ((k : ℕ) → k < n → getD xs k 0 ≤ b) → sum xs ≤ n * b
+sum-of-readings n b [] e h = omega arith
+sum-of-readings zero b (x ∷ xs) e h = absurd (omega arith)
+sum-of-readings (suc n) b (x ∷ xs) e h = omega (arith, h 0 (omega arith), sum-of-readings n b xs (omega arith) (λ k l. h (suc k) (omega arith)))
+
+three-le : {a b c x y z : ℕ} → a ≤ x → b ≤ y → c ≤ z → a * b * c ≤ x * y * z
+three-le h g f = mul-le-mul (mul-le-mul h g) f
+
+module _ (s : Sheet) (c : CheckedSheet s) where
+  few : length (s .units) ≤ 160
+  few = omega (arith, c .unit-count, c .header .unitCount)
+
+  -- over all units, and over those that pass a test
+  over-all : (f : UnitRow → ℕ) (b : ℕ) → ((u : UnitRow) → UnitFits s u → f u ≤ b) → sumOf f (s .units) ≤ 160 * b
+  over-all f b le = sum-at-most (UnitFits s) f b le 160 (s .units) (c .units) few
+
+  over-those : (p : UnitRow → Bool) (f : UnitRow → ℕ) (b : ℕ) → ((u : UnitRow) → UnitFits s u → f u ≤ b) → sumOf f (those p (s .units)) ≤ 160 * b
+  over-those p f b le =
+      sum-at-most (UnitFits s) f b le 160 (those p (s .units)) (each-those (UnitFits s) p (s .units) (c .units)) (omega (arith, those-fewer p (s .units), few))
+
+  -- over the first i units
+  pub prefix-at-most : (f : UnitRow → ℕ) (b : ℕ) → ((u : UnitRow) → UnitFits s u → f u ≤ b) → (i : ℕ) → sumOf f (take i (s .units)) ≤ 160 * b
+  prefix-at-most f b le i =
+      sum-at-most (UnitFits s) f b le 160 (take i (s .units)) (each-take (UnitFits s) i (s .units) (c .units)) (omega (arith, length-take i (s .units), few))
+
+  common-water-le : (u : UnitRow) → UnitFits s u → commonWaterWeight u ≤ 50
+  common-water-le u h = elim (decided (eqb (u .waterClass) 1 || eqb (u .waterClass) 2)) [ inl e ↦ rw e (h .persons) | inr e ↦ rw e (omega arith) ]
+
+  litres-heated : s .waterSource ≡ 2 → (100 + s .lossFactor) * 54 * waterReading s 0 ≤ 324000000000
+  litres-heated e =
+      let t : (100 + s .lossFactor) * 54 ≤ 16200 = omega (arith, c .header .lossFactorHigh) in
+      mul-le-mul t (c .header .waterLitres e)
+
+  summer-readings : sum (s .waterReadings) ≤ 24000000000
+  summer-readings = sum-of-readings 6 4000000000 (s .waterReadings) (c .reading-count) (c .header .waterReadings)
+
+  hot-water : hotWaterWh s ≤ 4600000000
+  unfolding hotWaterWh hotWater
+  hot-water = elim (decided (eqb (s .waterSource) 0)) [
+    | inl p ↦ rw p (omega arith)
+    | inr p ↦ elim (decided (eqb (s .waterSource) 1)) [
+      | inl q ↦ rw (p, q) (omega (arith, c .header .waterReadings 0 (omega arith)))
+      | inr q ↦ elim (decided (eqb (s .waterSource) 2)) [
+        | inl r ↦ rw (p, q, r) (omega (arith, litres-heated (eqb-true (s .waterSource) 2 r)))
+        | inr r ↦ rw (p, q, r) (omega (arith, summer-readings))
+      ]
+    ]
+  ]
+
+  pub sum-bounds : SumBounds s
+  unfolding totalArea readArea readSurface readingSum meteredSum unitsOfClass litresByVolume personsByPersons billCents
+  sum-bounds =
+      let product : s .sharedMeter * s .price ≤ 400000000000000 = mul-le-mul (c .header .sharedMeter) (c .header .price) in
+      record {
+        total-area = over-all (λ u. u .heatedArea) 10000 (λ u h. h .heatedArea);
+        heat-loads = over-all (λ u. u .heatLoad) 100000 (λ u h. h .heatLoad);
+        read-area = over-those isRead (λ u. u .heatedArea) 10000 (λ u h. h .heatedArea);
+        read-surface = over-those isRead (λ u. u .riserSurface) 10000 (λ u h. h .riserSurface);
+        readings = over-those isRead (λ u. u .reading) 25000000 (λ u h. h .reading);
+        impulses = λ m. over-those isRead (λ u. u .reading) 50000 (λ u h. h .impulses m);
+        metered = over-all (λ u. u .reading) 25000000 (λ u h. h .reading);
+        classes = λ k. omega (arith, those-fewer (λ u. eqb (u .waterClass) k) (s .units), few);
+        litres = over-those (λ u. eqb (u .waterClass) 1) (λ u. u .litres) 1000000 (λ u h. h .litres);
+        persons-by-persons = over-those (λ u. eqb (u .waterClass) 2) (λ u. u .persons) 50 (λ u h. h .persons);
+        persons = over-all commonWaterWeight 50 common-water-le;
+        litres-heated = litres-heated;
+        summer-readings = summer-readings;
+        hot-water = hot-water;
+        price-product = product;
+        bill = omega arith;
+      }
+
+  -- ---- the weights of a unit
+  module _ (u : UnitRow) (h : UnitFits s u) where
+    unread-le : unreadWeight s u ≤ 350000000
+    unfolding unreadWeight
+    unread-le = elim (decided (eqb (u .status) 1 || eqb (u .status) 4)) [
+      | inl e ↦ rw e (three-le (h .heatedArea) (h .locationFactor) (c .header .unmeteredFactorHigh))
+      | inr e ↦ rw e (omega (arith, h .heatedArea))
+    ]
+
+    base-le : s .model ≤ 4 → u .heatedArea * readingSum s ≤ 80000000000
+    base-le m = mul-le-mul (h .heatedArea) (sum-bounds .impulses m)
+
+    rest-percent : 100 - s .basePercent ≤ 100
+    rest-percent = omega arith
+
+    area-weight-le : s .model ≤ 4 → areaWeight s u ≤ 24000000000000000
+    unfolding areaWeight
+    area-weight-le m =
+        let r : limited (u .heatedArea * readingSum s) ((100 - s .basePercent) * u .reading * readArea s + s .basePercent * u .heatedArea * readingSum s) ≤ 24000000000000 = omega (arith, base-le m) in
+        mul-le-mul r (h .locationFactor)
+
+    reading-by-surface : s .model ≤ 4 → (100 - s .basePercent) * u .reading * readSurface s ≤ 8000000000000
+    reading-by-surface m = three-le rest-percent (h .impulses m) (sum-bounds .read-surface)
+
+    surface-by-readings : s .model ≤ 4 → s .basePercent * u .riserSurface * readingSum s ≤ 4800000000000
+    surface-by-readings m = three-le (c .header .basePercentHigh) (h .riserSurface) (sum-bounds .impulses m)
+
+    surface-weight-le : s .model ≤ 4 → surfaceWeight s u ≤ 12800000000000000
+    unfolding surfaceWeight
+    surface-weight-le m =
+        let r : (100 - s .basePercent) * u .reading * readSurface s + s .basePercent * u .riserSurface * readingSum s ≤ 12800000000000 = omega (arith, reading-by-surface m, surface-by-readings m) in
+        mul-le-mul r (h .locationFactor)
+
+    read-le : readWeight s u ≤ 24000000000000000
+    unfolding readWeight
+    read-le = elim (decided (eqb (readingSum s) 0)) [
+      | inl e ↦ elim (decided (eqb (s .model) 4)) [
+        | inl q ↦ rw (e, q) (omega (arith, mul-le-mul (h .riserSurface) (h .locationFactor)))
+        | inr q ↦ rw (e, q) (omega (arith, mul-le-mul (h .heatedArea) (h .locationFactor)))
+      ]
+      | inr e ↦ elim (decided (eqb (s .model) 3)) [
+        | inl p ↦ rw (e, p) (area-weight-le (omega (arith, eqb-true (s .model) 3 p)))
+        | inr p ↦ elim (decided (eqb (s .model) 4)) [
+          | inl q ↦ rw (e, p, q) (omega (arith, surface-weight-le (omega (arith, eqb-true (s .model) 4 q))))
+          | inr q ↦ rw (e, p, q) (omega (arith, h .reading))
+        ]
+      ]
+    ]
+
+    by-litres : unitsOfClass 1 s * u .litres * personsByPersons s ≤ 1280000000000
+    by-litres = three-le (sum-bounds .classes 1) (h .litres) (sum-bounds .persons-by-persons)
+
+    by-persons : unitsOfClass 2 s * u .persons * litresByVolume s ≤ 1280000000000
+    by-persons = three-le (sum-bounds .classes 2) (h .persons) (sum-bounds .litres)
+
+    water-le : waterWeight s u ≤ 1280000000000
+    unfolding waterWeight
+    water-le = elim (decided (eqb (u .waterClass) 1)) [
+      | inl e ↦ elim (decided (eqb (unitsOfClass 2 s) 0)) [ inl f ↦ rw (e, f) (omega (arith, h .litres)) | inr f ↦ rw (e, f) by-litres ]
+      | inr e ↦ elim (decided (eqb (u .waterClass) 2)) [
+        | inl g ↦ elim (decided (eqb (unitsOfClass 1 s) 0)) [ inl f ↦ rw (e, g, f) (omega (arith, h .persons)) | inr f ↦ rw (e, g, f) by-persons ]
+        | inr g ↦ rw (e, g) (omega arith)
+      ]
+    ]
+
+    pub unit-bounds : UnitBounds s u
+    unit-bounds = record {
+      unread = unread-le;
+      reading-by-area = λ m. three-le rest-percent (h .impulses m) (sum-bounds .read-area);
+      area-by-readings = λ m. three-le (c .header .basePercentHigh) (h .heatedArea) (sum-bounds .impulses m);
+      base = base-le;
+      area-weight = area-weight-le;
+      reading-by-surface = reading-by-surface;
+      surface-by-readings = surface-by-readings;
+      surface-weight = surface-weight-le;
+      read = read-le;
+      by-litres = by-litres;
+      by-persons = by-persons;
+      water = water-le;
+    }
+
+  pub weight-bounds : WeightBounds s
+  unfolding unreadWeights readWeights poolWeight
+  weight-bounds =
+      let unread : sum (unreadWeights s) ≤ 56000000000 = over-those (λ u. not (isRead u)) (unreadWeight s) 350000000 unread-le in
+      record {
+        unread = unread;
+        pool = omega (arith, unread, sum-append (unreadWeights s) (poolWeight s ∷ []), sum-bounds .total-area);
+        read = over-those isRead (readWeight s) 24000000000000000 read-le;
+        water = over-all (waterWeight s) 1280000000000 water-le;
+      }

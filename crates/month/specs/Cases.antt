@@ -1,0 +1,232 @@
+-- Computed cases, from the bytes on: A to L (document 01, "Cases for the proofs"), and small sheets of each model and water source and refusals 8 to 11, checked by hand.
+use mathlib.Core.Path.{_≡_, refl}
+use mathlib.Core.List.{List, [], _∷_, _++_, map}
+use Prim.Native.Nat.{ℕ, zero, suc, _/_, _%_}
+use lib.ListN.{length, getD, drop}
+use Rattle.apportion.specs.Shares.{sharesBy, shares}
+use Rattle.sheet.specs.Tests.{all, any}
+use Rattle.sheet.specs.Refusals.{numberOf, placeOf, firstRefusal}
+use Rattle.sheet.specs.Layout.{unitRow, rows, sheetOf}
+use Rattle.sheet.specs.Check.{headerTests, rowTests, rowRules, sheetRules}
+use Rattle.month.specs.Weights.{allMetered, meteredSum, hasPool, totalArea, unreadWeight, unreadWeights, poolWeight, readingSum, readArea, readSurface, areaWeight, surfaceWeight, readWeight, readWeights, unitsOfClass, litresByVolume, personsByPersons, waterWeight}
+use Rattle.month.specs.Steps.{splitBy, inUnitOrder, unitByUnit, hotWater, spaceHeat, heatParts, poolShares, readShares, heat, commonHeat, waterParts, water, commonWater, energies}
+use Rattle.month.specs.Month.{hotWaterWh, spaceHeatWh, zeroWaterDivisor, zeroDivisor, monthRules, billCents, costs, fourAndFour, statementOf, Month, monthOf, Settled, refused, settled, settleRules, settledSheet}
+
+-- ---- sheets in bytes
+abbrev bytes16 : ℕ → List ℕ
+bytes16 x = x % 256 ∷ x / 256 ∷ []
+
+abbrev bytes32 : ℕ → List ℕ
+bytes32 x = x % 256 ∷ x / 256 % 256 ∷ x / 65536 % 256 ∷ x / 16777216 ∷ []
+
+all32 : List ℕ → List ℕ
+all32 [] = []
+all32 (x ∷ xs) = bytes32 x ++ all32 xs
+
+-- a row in layout order
+unit : (id status class KF p s q b litres persons : ℕ) → List ℕ
+unit id status class KF p s q b litres persons =
+    bytes32 id ++ (status ∷ class ∷ bytes16 KF) ++ all32 (p ∷ s ∷ q ∷ b ∷ litres ∷ []) ++ bytes16 persons ++ (0 ∷ 0 ∷ [])
+
+joined : List (List ℕ) → List ℕ
+joined [] = []
+joined (row ∷ rows) = row ++ joined rows
+
+-- a sheet of month 1 in layout order
+sheet : (model source v z y f t M price : ℕ) → List ℕ → List (List ℕ) → List ℕ
+sheet model source v z y f t M price readings units =
+    (72 ∷ 67 ∷ 83 ∷ 0 ∷ bytes16 1)
+    ++ (1 ∷ model ∷ bytes16 (length units))
+    ++ (source ∷ v ∷ z ∷ y ∷ f ∷ t ∷ [])
+    ++ all32 (M ∷ price ∷ readings)
+    ++ joined units
+
+-- h1 with h2 .. h6 zero, and all six 1,000
+abbrev first : ℕ → List ℕ
+first h1 = h1 ∷ 0 ∷ 0 ∷ 0 ∷ 0 ∷ 0 ∷ []
+
+abbrev six : List ℕ
+six = 1000 ∷ 1000 ∷ 1000 ∷ 1000 ∷ 1000 ∷ 1000 ∷ []
+
+-- a unit of models 3 and 5 without water
+abbrev heated : (id status KF p b : ℕ) → List ℕ
+heated id status KF p b = unit id status 0 KF p 0 0 b 0 0
+
+-- case A's header with f, and its units with b
+sheetA : (f : ℕ) → List (List ℕ) → List ℕ
+sheetA f units = sheet 3 0 30 20 0 f 0 1000000 10000 (first 0) units
+
+unitsA : (b₁ b₂ b₃ : ℕ) → List (List ℕ)
+unitsA b₁ b₂ b₃ = heated 11 0 1000 500 b₁ ∷ heated 12 0 1000 500 b₂ ∷ heated 13 0 1000 1000 b₃ ∷ []
+
+-- the same, unit 11 without a device
+unitsD : List (List ℕ)
+unitsD = heated 11 1 1000 500 0 ∷ heated 12 0 1000 500 300 ∷ heated 13 0 1000 1000 600 ∷ []
+
+-- p 500 without a device, p 1,000 read
+unitsE : List (List ℕ)
+unitsE = heated 11 1 1000 500 0 ∷ heated 12 0 1000 1000 300 ∷ []
+
+-- model 2, M 1,000, of which H 600 by a meter of its own
+waterSheet : (y : ℕ) → List (List ℕ) → List ℕ
+waterSheet y units = sheet 2 1 0 0 y 0 0 1000 10000 (first 600) units
+
+-- ---- answers
+pub data Answer : Type 0 where
+  settlesTo : Month → Answer
+  settles : (bill : ℕ) (numbers : List ℕ) → Answer
+  refuses : (number place : ℕ) → Answer
+  numbers : List ℕ → Answer
+
+-- the answer to a sheet: whole; bill and statement; each unit's heat alone
+abbrev wholeOf : Settled → Answer
+wholeOf (settled m) = settlesTo m
+wholeOf (refused r) = refuses (numberOf r) (placeOf r)
+
+abbrev answerOf : Settled → Answer
+answerOf (settled m) = settles (m .bill) (m .numbers)
+answerOf (refused r) = refuses (numberOf r) (placeOf r)
+
+everyEighth : ℕ → List ℕ → List ℕ
+everyEighth zero xs = []
+everyEighth (suc n) xs = getD xs 0 0 ∷ everyEighth n (drop 8 xs)
+
+abbrev heatsOf : Settled → Answer
+heatsOf (settled m) = numbers (everyEighth (m .unitCount) (m .numbers))
+heatsOf (refused r) = refuses (numberOf r) (placeOf r)
+
+whole : List ℕ → Answer
+whole bytes = wholeOf (settledSheet bytes)
+
+answer : List ℕ → Answer
+answer bytes = answerOf (settledSheet bytes)
+
+heats : List ℕ → Answer
+heats bytes = heatsOf (settledSheet bytes)
+
+pool : List ℕ → Answer
+pool bytes = numbers (poolWeight (sheetOf bytes) ∷ [])
+
+-- the hot water of model 2 with a source, t and readings
+hotWaterOf : (source t : ℕ) → List ℕ → Answer
+hotWaterOf source t readings = numbers (hotWaterWh (sheetOf (sheet 2 source 0 0 0 0 t 0 0 readings [])) ∷ [])
+
+billOf : (M price : ℕ) → Answer
+billOf M price = numbers (billCents (sheetOf (sheet 2 0 0 0 0 0 0 M price (first 0) [])) ∷ [])
+
+-- ---- the table: what the definitions give, and what is expected
+infix 70 _gives_
+pub data Case : Type 0 where
+  _gives_ : Answer → Answer → Case
+
+abbrev pub given : Case → Answer
+given (x gives y) = x
+
+abbrev pub expected : Case → Answer
+expected (x gives y) = y
+
+-- A whole
+monthA : Month
+monthA = record {
+  month = 1;
+  unitCount = 3;
+  ids = 11 ∷ 12 ∷ 13 ∷ [];
+  meter = 1000000;
+  bill = 10000;
+  numbers = 116000 ∷ 50000 ∷ 0 ∷ 0 ∷ 1160 ∷ 500 ∷ 0 ∷ 0
+      ∷ 228000 ∷ 50000 ∷ 0 ∷ 0 ∷ 2280 ∷ 500 ∷ 0 ∷ 0
+      ∷ 456000 ∷ 100000 ∷ 0 ∷ 0 ∷ 4560 ∷ 1000 ∷ 0 ∷ 0
+      ∷ [];
+}
+
+-- document 01's
+casesAtoL : List Case
+casesAtoL =
+    whole (sheetA 30 (unitsA 100 300 600)) gives settlesTo monthA  -- A
+    ∷ heats (sheetA 30 (unitsA 0 400 600)) gives numbers (78049 ∷ 277073 ∷ 444878 ∷ [])  -- B
+    ∷ heats (sheetA 30 (unitsA 1000 0 0)) gives numbers (571429 ∷ 76190 ∷ 152381 ∷ [])  -- C
+    ∷ heats (sheetA 30 unitsD) gives numbers (600000 ∷ 66667 ∷ 133333 ∷ [])  -- D
+    ∷ pool (sheetA 30 unitsE) gives numbers (0 ∷ [])  -- E
+    ∷ heats (sheetA 30 unitsE) gives numbers (800000 ∷ 0 ∷ [])  -- E settles
+    ∷ answer (sheetA 31 unitsE) gives refuses 12 0  -- F
+    ∷ numbers (shares 10 (1 ∷ 1 ∷ 1 ∷ [])) gives numbers (4 ∷ 3 ∷ 3 ∷ [])  -- G
+    ∷ numbers (shares 5 (0 ∷ 3 ∷ 1 ∷ [])) gives numbers (0 ∷ 4 ∷ 1 ∷ [])  -- H
+    ∷ hotWaterOf 2 51 (first 1) gives numbers (82 ∷ [])  -- I
+    ∷ hotWaterOf 3 0 six gives numbers (1150 ∷ [])  -- J
+    ∷ billOf 50 10000 gives numbers (1 ∷ [])  -- K
+    ∷ billOf 49 10000 gives numbers (0 ∷ [])  -- L
+    ∷ []
+
+-- others
+casesByHand : List Case
+casesByHand =
+    -- Model 1, q 1,000 and 3,000. Of the ten cents 2.5 and 7.5 are due: the earlier gets the half.
+    answer (sheet 1 0 0 0 0 0 0 1000 10000 (first 0) (unit 11 0 0 1000 100 0 1000 0 0 0 ∷ unit 12 0 0 1000 100 0 3000 0 0 0 ∷ []))
+    gives settles 10 (250 ∷ 0 ∷ 0 ∷ 0 ∷ 3 ∷ 0 ∷ 0 ∷ 0 ∷ 750 ∷ 0 ∷ 0 ∷ 0 ∷ 7 ∷ 0 ∷ 0 ∷ 0 ∷ [])
+    -- Model 2 with both water classes: n1 2, n2 1, L 40, N2 4, so 480 Wh by 240, 80, 160; common water 120 Wh by 1, 3, 4; the fourth unit has no water.
+    ∷ answer (waterSheet 20 (unit 11 0 1 1000 50 0 0 0 30 1 ∷ unit 12 0 1 1000 50 0 0 0 10 3 ∷ unit 13 0 2 1000 100 0 0 0 0 4 ∷ unit 14 0 0 1000 200 0 0 0 0 0 ∷ []))
+    gives settles 10 (
+    50 ∷ 0 ∷ 240 ∷ 15 ∷ 1 ∷ 0 ∷ 2 ∷ 0
+    ∷ 50 ∷ 0 ∷ 80 ∷ 45 ∷ 0 ∷ 0 ∷ 1 ∷ 0
+    ∷ 100 ∷ 0 ∷ 160 ∷ 60 ∷ 1 ∷ 0 ∷ 2 ∷ 1
+    ∷ 200 ∷ 0 ∷ 0 ∷ 0 ∷ 2 ∷ 0 ∷ 0 ∷ 0
+    ∷ []
+    )
+    -- Model 3 with KF 1,000, 200, 1,000: r 15, 85, 100 millions, the first raised to 20, so weights 20, 17, 100.
+    ∷ heats (sheet 3 0 30 50 0 30 0 274000 10000 (first 0) (heated 11 0 1000 500 0 ∷ heated 12 0 200 500 500 ∷ heated 13 0 1000 1000 500 ∷ []))
+    gives numbers (20000 ∷ 17000 ∷ 100000 ∷ [])
+    -- Model 3, unit 11 in status 3: a quarter of 800,000 by its p, whatever KF. A is 1,500: r 40.5 and 49.5 millions.
+    ∷ heats (sheetA 30 (heated 11 3 500 500 0 ∷ heated 12 0 1000 500 300 ∷ heated 13 0 1000 1000 300 ∷ [])) gives numbers (200000 ∷ 270000 ∷ 330000 ∷ [])
+    -- Model 3, B = 0: by p × KF.
+    ∷ heats (sheetA 30 (heated 11 0 1000 500 0 ∷ heated 12 0 500 1000 0 ∷ [])) gives numbers (400000 ∷ 400000 ∷ [])
+    -- Model 3, M = 0: nothing by energies of sum 0.
+    ∷ answer (sheet 3 0 30 20 0 30 0 0 10000 (first 0) (heated 11 0 1000 500 100 ∷ [])) gives settles 0 (0 ∷ 0 ∷ 0 ∷ 0 ∷ 0 ∷ 0 ∷ 0 ∷ 0 ∷ [])
+    -- Model 4, v 50, z 10: r 80,000 each, KF 1,000 and 500. H by t 50 and ten litres is 810, by persons 2 and 1.
+    ∷ answer (sheet 4 2 50 10 0 30 50 1810 100000 (first 10) (unit 11 0 2 1000 100 10 0 30 0 2 ∷ unit 12 0 2 500 300 30 0 10 0 1 ∷ []))
+    gives settles 181 (600 ∷ 25 ∷ 540 ∷ 0 ∷ 60 ∷ 3 ∷ 54 ∷ 0 ∷ 300 ∷ 75 ∷ 270 ∷ 0 ∷ 30 ∷ 7 ∷ 27 ∷ 0 ∷ [])
+    -- Model 4, v 10, unit 11 without a device: three quarters by its p. S is 40, B 40: r 4,000, 80,000, 76,000.
+    ∷ heats (sheet 4 0 10 0 0 30 0 3200 10000 (first 0) (unit 11 1 0 1000 100 40 0 0 0 0 ∷ unit 12 0 0 1000 100 10 0 0 0 0 ∷ unit 13 0 0 1000 100 20 0 20 0 0 ∷ unit 14 0 0 1000 100 10 0 20 0 0 ∷ []))
+    gives numbers (2400 ∷ 20 ∷ 400 ∷ 380 ∷ [])
+    -- Model 4, B = 0: by s × KF.
+    ∷ heats (sheet 4 0 50 0 0 30 0 900 10000 (first 0) (unit 11 0 0 1000 100 10 0 0 0 0 ∷ unit 12 0 0 500 100 40 0 0 0 0 ∷ []))
+    gives numbers (300 ∷ 600 ∷ [])
+    -- Model 5, all read: C 800 of EG 1,000. H by six readings is 1,150, y 20; class 1 alone, by litres 3 and 2.
+    ∷ answer (sheet 5 3 0 0 20 30 0 2150 100000 six (unit 11 0 1 1000 100 0 0 300 3 1 ∷ unit 12 0 1 1000 300 0 0 500 2 1 ∷ []))
+    gives settles 215 (300 ∷ 50 ∷ 552 ∷ 115 ∷ 30 ∷ 5 ∷ 55 ∷ 12 ∷ 500 ∷ 150 ∷ 368 ∷ 115 ∷ 50 ∷ 15 ∷ 37 ∷ 11 ∷ [])
+    -- Model 5, unit 13 in status 4 with KF 500: three eighths of 800,000; the rest by b, whatever KF.
+    ∷ answer (sheet 5 0 0 20 0 30 0 1000000 10000 (first 0) (heated 11 0 500 500 100000 ∷ heated 12 0 1000 1000 300000 ∷ heated 13 4 500 500 0 ∷ []))
+    gives settles 10000 (
+    125000 ∷ 50000 ∷ 0 ∷ 0 ∷ 1250 ∷ 500 ∷ 0 ∷ 0
+    ∷ 375000 ∷ 100000 ∷ 0 ∷ 0 ∷ 3750 ∷ 1000 ∷ 0 ∷ 0
+    ∷ 300000 ∷ 50000 ∷ 0 ∷ 0 ∷ 3000 ∷ 500 ∷ 0 ∷ 0
+    ∷ []
+    )
+    -- No bytes.
+    ∷ answer [] gives refuses 1 0
+    -- 8: H 1,001 of M 1,000.
+    ∷ answer (sheet 2 1 0 0 0 0 0 1000 10000 (first 1001) (unit 11 0 1 1000 100 0 0 0 5 1 ∷ [])) gives refuses 8 0
+    -- 9: n1 + n2 = 0; L = 0; N2 = 0; y > 0 and no persons; model 1 with all q 0; model 4 with S = 0.
+    ∷ answer (waterSheet 0 (unit 11 0 0 1000 100 0 0 0 0 0 ∷ [])) gives refuses 9 0
+    ∷ answer (waterSheet 0 (unit 11 0 1 1000 100 0 0 0 0 1 ∷ [])) gives refuses 9 0
+    ∷ answer (waterSheet 0 (unit 11 0 2 1000 100 0 0 0 0 0 ∷ [])) gives refuses 9 0
+    ∷ answer (waterSheet 20 (unit 11 0 1 1000 100 0 0 0 5 0 ∷ [])) gives refuses 9 0
+    ∷ answer (sheet 1 0 0 0 0 0 0 1000 10000 (first 0) (unit 11 0 0 1000 100 0 0 0 0 0 ∷ [])) gives refuses 9 0
+    ∷ answer (sheet 4 0 50 0 0 30 0 1000 10000 (first 0) (unit 11 0 0 1000 100 0 0 30 0 0 ∷ [])) gives refuses 9 0
+    -- 10: nobody read.
+    ∷ answer (sheetA 30 (heated 11 2 1000 500 0 ∷ [])) gives refuses 10 0
+    -- 11: H by case I is 82, exactly 81.54; so of M 182 a C of 100 passes, 101 does not.
+    ∷ heats (sheet 5 2 0 0 0 30 51 182 10000 (first 1) (unit 11 0 1 1000 100 0 0 100 1 1 ∷ [])) gives numbers (100 ∷ [])
+    ∷ answer (sheet 5 2 0 0 0 30 51 182 10000 (first 1) (unit 11 0 1 1000 100 0 0 101 1 1 ∷ [])) gives refuses 11 0
+    ∷ []
+
+pub cases : List Case
+cases = casesAtoL ++ casesByHand
+
+pub all-cases : map given cases ≡ map expected cases
+unfolding cases casesAtoL casesByHand
+    all32 unit joined sheet sheetA unitsA unitsD unitsE waterSheet everyEighth whole answer monthA heats pool hotWaterOf billOf
+    sharesBy all any firstRefusal unitRow rows sheetOf headerTests rowTests rowRules sheetRules
+    allMetered meteredSum hasPool totalArea unreadWeight unreadWeights poolWeight readingSum readArea readSurface areaWeight surfaceWeight readWeight readWeights unitsOfClass litresByVolume personsByPersons waterWeight
+    splitBy inUnitOrder unitByUnit hotWater spaceHeat heatParts poolShares readShares heat commonHeat waterParts water commonWater energies
+    hotWaterWh spaceHeatWh zeroWaterDivisor zeroDivisor monthRules billCents costs fourAndFour statementOf monthOf settleRules settledSheet
+all-cases = refl

@@ -1,0 +1,70 @@
+-- Where the fields stand: what the reads of header and rows by a field's number use. Assumes nothing.
+use mathlib.Core.Path.{_≡_, refl, sym, ap, subst}
+use mathlib.Core.Bool.{Bool}
+use mathlib.Core.List.{List, [], _∷_}
+use Prim.Native.Nat.{ℕ, zero, suc, _+_, _*_, _-_, _≤_, _<_}
+use native.Mathlib.Omega.{arith}
+use borrow.Author.Tests.{le-leb, lt-leb}
+use lib.ListN.{length, take}
+use Rattle.sheet.specs.Tests.{if_then_else_}
+use Rattle.sheet.specs.Layout.{sheetOf, byte, le16, le32}
+use Rattle.sheet.specs.Fields.{unitRowAt, rowField, headerField, fieldAt}
+
+-- ---- a fact of each of the n numbers from a on
+abbrev Span : (ℕ → Type 0) → ℕ → ℕ → Type 0
+Span P a zero = Unit {0}
+Span P a (suc n) = P a × Span P (a + 1) n
+
+module _ (P : ℕ → Type 0) where
+  span-at : (a n j : ℕ) → Span P a n → j < n → P (a + j)
+  span-at a zero j s h = absurd (omega arith)
+  span-at a (suc n) zero s h = let e : a ≡ a + 0 = omega arith in subst P e (s .0)
+  span-at a (suc n) (suc j) s h = let e : a + 1 + j ≡ a + suc j = omega arith in subst P e (span-at (a + 1) n j (s .1) (omega arith))
+
+  in-span : (a n k : ℕ) → Span P a n → a ≤ k → k < a + n → P k
+  in-span a n k s l h = let e : a + (k - a) ≡ k = omega arith in subst P e (span-at a n (k - a) s (omega arith))
+
+-- ---- a row's fields
+module _ (bytes : List ℕ) (at k : ℕ) where
+  pub row-byte : 1 ≤ k → k < 3 → byte bytes (at + (3 + k)) ≡ rowField (unitRowAt bytes at) k
+  unfolding unitRowAt
+  row-byte l h = in-span (λ (k : ℕ). byte bytes (at + (3 + k)) ≡ rowField (unitRowAt bytes at) k) 1 2 k (refl, (refl, tt)) l h
+
+  pub row-le32 : 4 ≤ k → k < 9 → le32 bytes (at + 4 * (k - 2)) ≡ rowField (unitRowAt bytes at) k
+  unfolding unitRowAt
+  row-le32 l h = in-span (λ (k : ℕ). le32 bytes (at + 4 * (k - 2)) ≡ rowField (unitRowAt bytes at) k) 4 5 k (refl, (refl, (refl, (refl, (refl, tt))))) l h
+
+  pub row-le16 : 9 ≤ k → k < 11 → le16 bytes (at + (10 + 2 * k)) ≡ rowField (unitRowAt bytes at) k
+  unfolding unitRowAt
+  row-le16 l h = in-span (λ (k : ℕ). le16 bytes (at + (10 + 2 * k)) ≡ rowField (unitRowAt bytes at) k) 9 2 k (refl, (refl, tt)) l h
+
+  -- a row that is wholly inside, and one that is not
+  pub inside : at + 32 ≤ length bytes → fieldAt bytes at k ≡ rowField (unitRowAt bytes at) k
+  inside h = ap (λ (t : Bool). if t then rowField (unitRowAt bytes at) k else 0) (le-leb _ _ h)
+
+  pub outside : length bytes < at + 32 → 0 ≡ fieldAt bytes at k
+  outside h = sym (ap (λ (t : Bool). if t then rowField (unitRowAt bytes at) k else 0) (lt-leb _ _ h))
+
+-- ---- the header's fields
+module _ (bytes : List ℕ) (k : ℕ) where
+  pub header-byte : k < 2 → byte bytes (6 + k) ≡ headerField (sheetOf bytes) k
+  unfolding sheetOf
+  header-byte h = in-span (λ (k : ℕ). byte bytes (6 + k) ≡ headerField (sheetOf bytes) k) 0 2 k (refl, (refl, tt)) (omega arith) h
+
+  pub header-later-byte : 3 ≤ k → k < 9 → byte bytes (7 + k) ≡ headerField (sheetOf bytes) k
+  unfolding sheetOf
+  header-later-byte l h = in-span (λ (k : ℕ). byte bytes (7 + k) ≡ headerField (sheetOf bytes) k) 3 6 k (refl, (refl, (refl, (refl, (refl, (refl, tt)))))) l h
+
+  pub header-le32 : 9 ≤ k → k < 17 → le32 bytes (4 * k - 20) ≡ headerField (sheetOf bytes) k
+  unfolding sheetOf
+  header-le32 l h =
+      in-span (λ (k : ℕ). le32 bytes (4 * k - 20) ≡ headerField (sheetOf bytes) k) 9 8 k
+      (refl, (refl, (refl, (refl, (refl, (refl, (refl, (refl, tt)))))))) l h
+
+-- ---- the first four bytes
+pub four-bytes : (bytes : List ℕ) → 4 ≤ length bytes → take 4 bytes ≡ byte bytes 0 ∷ byte bytes 1 ∷ byte bytes 2 ∷ byte bytes 3 ∷ []
+four-bytes [] h = absurd (omega arith)
+four-bytes (a ∷ []) h = absurd (omega arith)
+four-bytes (a ∷ b ∷ []) h = absurd (omega arith)
+four-bytes (a ∷ b ∷ c ∷ []) h = absurd (omega arith)
+four-bytes (a ∷ b ∷ c ∷ d ∷ bytes) h = refl

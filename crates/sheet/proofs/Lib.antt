@@ -1,0 +1,8 @@
+-- Laws that other crates cite, then those of the check's own proofs.
+pub mod Passed
+pub mod Units
+pub mod Fits
+pub mod Verdict
+mod Fields
+mod Walk
+pub mod Places

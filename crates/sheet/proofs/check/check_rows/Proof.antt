@@ -1,0 +1,185 @@
+use mathlib.Core.Path.{_≡_, refl, sym, _∙_}
+use mathlib.Core.Bool.{true, false}
+use mathlib.Core.List.{List}
+use Prim.Native.Nat.{ℕ, _-_, _≤_}
+use native.Mathlib.Omega.{arith}
+use borrow.Author.Needs.{needs}
+use borrow.Author.Tests.{not-true, not-false}
+use lib.ListN.{length, getD, drop}
+use Rattle.sheet.specs.declared.refusal.Outcome.the-variants.{Accepted}
+use Rattle.sheet.specs.Tests.{all}
+use Rattle.sheet.specs.Layout.{sheetOf}
+use Rattle.sheet.specs.Fields.{unitOf}
+use Rattle.sheet.proofs.Walk.{tests-more, tests-fault, tests-end, row-length, row-test, rowsFrom, testsOf, row-fault, order-fault, rows-more, rows-end}
+use Rattle.sheet.proofs.check.check_rows.Statement.{statement}
+use Rattle.sheet.proofs.check.check_rows.Tie as tie
+
+ten : (s : List ℕ) (i : ℕ) → length (testsOf s i) ≡ 10
+ten s i = row-length (sheetOf s) (unitOf (sheetOf s) i)
+
+abbrev Inv-loop : tie.InvT-loop
+Inv-loop s n model source found₀ i status class ranges k₀ found k = (k ≤ 10) × ((found ≡ Accepted) × (all (drop k (testsOf s i)) ≡ all (testsOf s i)))
+
+abbrev μ-loop : tie.MeasureT-loop
+μ-loop s n model source found₀ i status class ranges k₀ found k = 10 - k
+
+abbrev Inv-rows : tie.InvT-rows
+Inv-rows s n model source found₀ i₀ found i = (i ≤ n) × ((found ≡ Accepted) × (rowsFrom s i ≡ rowsFrom s 0))
+
+abbrev μ-rows : tie.MeasureT-rows
+μ-rows s n model source found₀ i₀ found i = n - i
+
+-- the row and the field at hand, from the test of a field
+abbrev Tested : Type 0
+Tested = tie.After-within Inv-loop μ-loop Inv-rows μ-rows
+
+abbrev rowOf : Tested → tie.At-rows Inv-loop μ-loop Inv-rows μ-rows
+rowOf c = c .before .before .before .before .before .before .before .before .before
+
+abbrev fieldOf : Tested → tie.At-loop Inv-loop μ-loop Inv-rows μ-rows
+fieldOf c = c .before .before .before .before
+
+abbrev bytesOf : tie.At-rows Inv-loop μ-loop Inv-rows μ-rows → List ℕ
+bytesOf c = c .before .before .before .before .args .s .now
+
+-- the code's test is the definition's
+test : (c : Tested) → getD (testsOf (bytesOf (rowOf c)) (rowOf c .rows .i)) (fieldOf c .loop .k) false ≡ c .within .result
+test c =
+    let s = sheetOf (bytesOf (rowOf c)) in
+    let row = rowOf c in
+    let field = fieldOf c in
+    let ranges = row-test s (unitOf s (row .rows .i)) _ _ _ _ _ (field .loop .k) _ (row .before .before .header-field .ensures) (row .before .header-field2 .ensures) (field .before .before .before .unit-field .ensures) (field .before .before .unit-field2 .ensures) (field .before .row-ranges .ensures) in
+    sym (c .within .ensures ∙ ranges (c .before .unit-field3 .ensures) (omega arith))
+
+-- behind the last field all tests have passed
+passed : (c : tie.After-loop Inv-loop μ-loop Inv-rows μ-rows) → all (testsOf (bytesOf (c .before .before .before .before .before .before)) (c .before .before .before .before .before .before .rows .i)) ≡ true
+passed c =
+    let s = bytesOf (c .before .before .before .before .before .before) in
+    let i = c .before .before .before .before .before .before .rows .i in
+    let fields = c .before .loop in
+    sym (fields .inv .1 .1) ∙ tests-end (testsOf s i) (fields .k) (omega (arith, ten s i))
+
+header-field-requires : tie.Need-header-field-requires Inv-loop μ-loop Inv-rows μ-rows
+header-field-requires c κs = omega arith
+
+header-field-requires-2 : tie.Need-header-field-requires-2 Inv-loop μ-loop Inv-rows μ-rows
+header-field-requires-2 c κs = omega arith
+
+rows-holds : tie.Need-rows-holds Inv-loop μ-loop Inv-rows μ-rows
+rows-holds c = (omega arith, (refl, refl))
+
+unit-field-requires : tie.Need-unit-field-requires Inv-loop μ-loop Inv-rows μ-rows
+unit-field-requires c κs = omega arith
+
+unit-field-requires-2 : tie.Need-unit-field-requires-2 Inv-loop μ-loop Inv-rows μ-rows
+unit-field-requires-2 c κs = omega arith
+
+row-ranges-requires : tie.Need-row-ranges-requires Inv-loop μ-loop Inv-rows μ-rows
+row-ranges-requires c κs = search needs
+
+loop-holds : tie.Need-loop-holds Inv-loop μ-loop Inv-rows μ-rows
+loop-holds c = (omega arith, (c .before .before .before .before .rows .inv .1 .0, refl))
+
+mul-range : tie.Need-mul-range Inv-loop μ-loop Inv-rows μ-rows
+mul-range c = omega arith
+
+array-copy-out-range : tie.Need-array-copy-out-range Inv-loop μ-loop Inv-rows μ-rows
+array-copy-out-range c = omega arith
+
+add-unit-field : tie.Need-add-unit-field Inv-loop μ-loop Inv-rows μ-rows
+add-unit-field c = omega arith
+
+unit-field-requires-3 : tie.Need-unit-field-requires-3 Inv-loop μ-loop Inv-rows μ-rows
+unit-field-requires-3 c κs = omega arith
+
+within-requires : tie.Need-within-requires Inv-loop μ-loop Inv-rows μ-rows
+within-requires c κs = search needs
+
+cast-t21 : tie.Need-cast-t21 Inv-loop μ-loop Inv-rows μ-rows
+cast-t21 c = omega arith
+
+add-k : tie.Need-add-k Inv-loop μ-loop Inv-rows μ-rows
+add-k c = omega arith
+
+loop-less : tie.Need-loop-less Inv-loop μ-loop Inv-rows μ-rows
+loop-less c = omega arith
+
+loop-again : tie.Need-loop-again Inv-loop μ-loop Inv-rows μ-rows
+loop-again c =
+    let row = rowOf (c .before) in
+    let s = bytesOf row in
+    let i = row .rows .i in
+    let fields = fieldOf (c .before) .loop in
+    let pass = test (c .before) ∙ not-false _ (c .if1 .left) in
+    (omega arith, (fields .inv .1 .0, tests-more (testsOf s i) (fields .k) (omega (arith, ten s i)) pass ∙ fields .inv .1 .1))
+
+not-above-requires : tie.Need-not-above-requires Inv-loop μ-loop Inv-rows μ-rows
+not-above-requires c κs = omega arith
+
+cast-t24 : tie.Need-cast-t24 Inv-loop μ-loop Inv-rows μ-rows
+cast-t24 c = omega arith
+
+add-i : tie.Need-add-i Inv-loop μ-loop Inv-rows μ-rows
+add-i c = omega arith
+
+rows-less : tie.Need-rows-less Inv-loop μ-loop Inv-rows μ-rows
+rows-less c = omega arith
+
+rows-again : tie.Need-rows-again Inv-loop μ-loop Inv-rows μ-rows
+rows-again c =
+    let row = c .before .before .before .before .before .before .before .before in
+    let ordered = sym (c .before .not-above .ensures) ∙ c .if2 .left in
+    (omega arith, (c .before .before .before .loop .inv .1 .0, rows-more (bytesOf row) (row .rows .i) (omega arith) (passed (c .before .before)) ordered ∙ row .rows .inv .1 .1))
+
+returns : tie.Need-returns Inv-loop μ-loop Inv-rows μ-rows
+returns c =
+    let at = c .before .rows in
+    at .inv .1 .0 ∙ sym (rows-end (bytesOf (c .before)) (at .i) (omega arith)) ∙ at .inv .1 .1
+
+returns-2 : tie.Need-returns-2 Inv-loop μ-loop Inv-rows μ-rows
+returns-2 c =
+    let row = rowOf (c .before) in
+    let s = bytesOf row in
+    let i = row .rows .i in
+    let fields = fieldOf (c .before) .loop in
+    let fault = test (c .before) ∙ not-true _ (c .if1 .taken) in
+    sym (row-fault s i (omega arith) (sym (fields .inv .1 .1) ∙ tests-fault (testsOf s i) (fields .k) (omega (arith, ten s i)) fault)) ∙ row .rows .inv .1 .1
+
+returns-3 : tie.Need-returns-3 Inv-loop μ-loop Inv-rows μ-rows
+returns-3 c =
+    let row = c .before .before .before .before .before .before .before .before in
+    let disorder = sym (c .before .not-above .ensures) ∙ c .if2 .taken in
+    sym (order-fault (bytesOf row) (row .rows .i) (omega arith) (passed (c .before .before)) disorder) ∙ row .rows .inv .1 .1
+
+pub check-rows-spec : {M : Type 1} → statement M
+check-rows-spec =
+    tie.close
+    (tie.spec
+    Inv-loop
+    μ-loop
+    Inv-rows
+    μ-rows
+    header-field-requires
+    header-field-requires-2
+    rows-holds
+    unit-field-requires
+    unit-field-requires-2
+    row-ranges-requires
+    loop-holds
+    mul-range
+    array-copy-out-range
+    add-unit-field
+    unit-field-requires-3
+    within-requires
+    cast-t21
+    add-k
+    loop-less
+    loop-again
+    not-above-requires
+    cast-t24
+    add-i
+    rows-less
+    rows-again
+    returns
+    returns-2
+    returns-3)

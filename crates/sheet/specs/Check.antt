@@ -1,0 +1,140 @@
+-- The check of a sheet: refusals 1 to 7 (document 01, "The sheet", "Refused sheets and calls").
+use mathlib.Core.Bool.{Bool, true, false, not, _&&_}
+use mathlib.Core.List.{List, [], _∷_}
+use mathlib.Core.Option.{Option, none, some}
+use Prim.Native.Nat.{ℕ, _+_, _*_}
+use lib.Dec.{ltb, leb, eqb}
+use lib.ListN.{length, getD}
+use Rattle.sheet.specs.declared.ranges.Range.{Range}
+use Rattle.sheet.specs.declared.refusal.Outcome.{Outcome}
+use Rattle.sheet.specs.declared.refusal.Refusal.the-variants.{TooShort, BadMagic, UnsupportedVersion, HeaderField, WrongLength, RowField, IdOrder}
+use Rattle.sheet.specs.Tests.{if_then_else_, all}
+use Rattle.sheet.specs.Refusals.{Rule, _⇒_, firstRefusal}
+use Rattle.sheet.specs.Layout.{UnitRow, Sheet, sheetOf, waterReading}
+
+-- ---- ranges: a lowest and a highest
+infix 80 _to_
+abbrev pub _to_ : ℕ → ℕ → Range
+low to high = record { low = low; high = high }
+
+infix 70 _within_
+abbrev pub _within_ : ℕ → Range → Bool
+x within r = leb (r .low) x && leb x (r .high)
+
+-- entry k of a table
+abbrev pub entry : List Range → ℕ → Range
+entry table k = getD table k (0 to 0)
+
+-- Lowest and highest by model, 1 to 5; entry 0 is no model.
+abbrev pub basePercentRanges : List Range
+basePercentRanges = 0 to 0 ∷ 0 to 0 ∷ 0 to 0 ∷ 20 to 30 ∷ 0 to 60 ∷ 0 to 0 ∷ []  -- v: model 3 article 8, model 4 (own)
+
+abbrev pub commonHeatRanges : List Range
+commonHeatRanges = 0 to 0 ∷ 0 to 0 ∷ 0 to 0 ∷ 0 to 50 ∷ 0 to 50 ∷ 0 to 50 ∷ []  -- z (own)
+
+abbrev pub unmeteredFactorRanges : List Range
+unmeteredFactorRanges = 0 to 0 ∷ 0 to 0 ∷ 0 to 0 ∷ 25 to 35 ∷ 25 to 35 ∷ 25 to 35 ∷ []  -- f
+
+abbrev pub statusRanges : List Range
+statusRanges = 0 to 0 ∷ 0 to 0 ∷ 0 to 0 ∷ 0 to 4 ∷ 0 to 4 ∷ 0 to 4 ∷ []  -- models 1 and 2 need status 0
+
+abbrev pub readingRanges : List Range
+readingRanges = 0 to 0 ∷ 0 to 0 ∷ 0 to 0 ∷ 0 to 50000 ∷ 0 to 50000 ∷ 0 to 25000000 ∷ []  -- b of a read unit; models 1 and 2 need b 0
+
+-- Lowest and highest by hot-water source, 0 to 3.
+abbrev pub commonWaterRanges : List Range
+commonWaterRanges = 0 to 0 ∷ 0 to 50 ∷ 0 to 50 ∷ 0 to 50 ∷ []  -- y (own)
+
+abbrev pub lossFactorRanges : List Range
+lossFactorRanges = 0 to 0 ∷ 0 to 0 ∷ 50 to 200 ∷ 0 to 0 ∷ []  -- t
+
+abbrev pub firstWaterReadingRanges : List Range
+firstWaterReadingRanges = 0 to 0 ∷ 0 to 4000000000 ∷ 0 to 20000000 ∷ 0 to 4000000000 ∷ []  -- h1
+
+abbrev pub otherWaterReadingRanges : List Range
+otherWaterReadingRanges = 0 to 0 ∷ 0 to 0 ∷ 0 to 0 ∷ 0 to 4000000000 ∷ []  -- h2 .. h6
+
+abbrev pub waterClassRanges : List Range
+waterClassRanges = 0 to 0 ∷ 0 to 2 ∷ 0 to 2 ∷ 0 to 2 ∷ []  -- only class 0 with source 0
+
+-- Lowest and highest by water class, 0 to 2.
+abbrev pub litresRanges : List Range
+litresRanges = 0 to 0 ∷ 0 to 1000000 ∷ 0 to 0 ∷ []
+
+abbrev pub personsRanges : List Range
+personsRanges = 0 to 0 ∷ 0 to 50 ∷ 0 to 50 ∷ []
+
+-- ---- 4: the header fields after the version, in layout order
+unfoldable pub headerTests : Sheet → List Bool
+headerTests s =
+    s .month within 1 to 12
+    ∷ s .model within 1 to 5
+    ∷ s .unitCount within 1 to 160
+    ∷ s .waterSource within 0 to 3
+    ∷ s .basePercent within entry basePercentRanges (s .model)
+    ∷ s .commonHeatPercent within entry commonHeatRanges (s .model)
+    ∷ s .commonWaterPercent within entry commonWaterRanges (s .waterSource)
+    ∷ s .unmeteredFactor within entry unmeteredFactorRanges (s .model)
+    ∷ s .lossFactor within entry lossFactorRanges (s .waterSource)
+    ∷ s .sharedMeter within 0 to 4000000000
+    ∷ s .price within 0 to 100000
+    ∷ waterReading s 0 within entry firstWaterReadingRanges (s .waterSource)
+    ∷ waterReading s 1 within entry otherWaterReadingRanges (s .waterSource)
+    ∷ waterReading s 2 within entry otherWaterReadingRanges (s .waterSource)
+    ∷ waterReading s 3 within entry otherWaterReadingRanges (s .waterSource)
+    ∷ waterReading s 4 within entry otherWaterReadingRanges (s .waterSource)
+    ∷ waterReading s 5 within entry otherWaterReadingRanges (s .waterSource)
+    ∷ []
+
+-- ---- 6: the fields of a row, in layout order. An id may be any number.
+unfoldable pub rowTests : Sheet → UnitRow → List Bool
+rowTests s u =
+    u .status within entry statusRanges (s .model)
+    ∷ u .waterClass within entry waterClassRanges (s .waterSource)
+    ∷ u .locationFactor within 1 to 1000
+    ∷ u .heatedArea within 1 to 10000
+    ∷ u .riserSurface within 0 to 10000
+    ∷ u .heatLoad within 0 to 100000
+    ∷ u .reading within (if eqb (u .status) 0 then entry readingRanges (s .model) else 0 to 0)
+    ∷ u .litres within entry litresRanges (u .waterClass)
+    ∷ u .persons within entry personsRanges (u .waterClass)
+    ∷ u .reserved within 0 to 0
+    ∷ []
+
+-- ---- 7: an id that is not above the one before; the first row has none before it
+abbrev pub notAbove : ℕ → Option ℕ → Bool
+notAbove id none = false
+notAbove id (some before) = leb id before
+
+-- 6 is tested before 7, row by row, the rows counted from i on.
+unfoldable pub rowRules : Sheet → ℕ → Option ℕ → List UnitRow → List Rule
+rowRules s i before [] = []
+rowRules s i before (u ∷ us) =
+    (not (all (rowTests s u)) ⇒ RowField i)
+    ∷ (notAbove (u .id) before ⇒ IdOrder i)
+    ∷ rowRules s (i + 1) (some (u .id)) us
+
+abbrev pub sameBytes : List ℕ → List ℕ → Bool
+sameBytes [] [] = true
+sameBytes [] (y ∷ ys) = false
+sameBytes (x ∷ xs) [] = false
+sameBytes (x ∷ xs) (y ∷ ys) = eqb x y && sameBytes xs ys
+
+-- `HCS`, 0
+abbrev pub sheetMagic : List ℕ
+sheetMagic = 72 ∷ 67 ∷ 83 ∷ 0 ∷ []
+
+-- ---- 1 to 7, where a unit takes `perUnit` bytes after the header: 32 in a sheet, 64 in an archive record
+unfoldable pub sheetRules : ℕ → List ℕ → List Rule
+sheetRules perUnit bytes =
+    let s = sheetOf bytes in
+    (ltb (length bytes) 48 ⇒ TooShort)
+    ∷ (not (sameBytes (s .magic) sheetMagic) ⇒ BadMagic)
+    ∷ (not (eqb (s .version) 1) ⇒ UnsupportedVersion)
+    ∷ (not (all (headerTests s)) ⇒ HeaderField)
+    ∷ (not (eqb (length bytes) (48 + perUnit * s .unitCount)) ⇒ WrongLength)
+    ∷ rowRules s 0 none (s .units)
+
+-- what the check of any bytes answers
+unfoldable pub checked : ℕ → List ℕ → Outcome
+checked perUnit bytes = firstRefusal (sheetRules perUnit bytes)

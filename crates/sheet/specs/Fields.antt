@@ -1,0 +1,75 @@
+-- The fields by their number in layout order, and where a unit row stands in the sheet's bytes.
+use mathlib.Core.List.{List, [], _∷_}
+use mathlib.Core.Option.{Option, none, some}
+use Prim.Native.Nat.{ℕ, zero, suc, _+_}
+use lib.Dec.{leb}
+use lib.ListN.{length, getD}
+use Rattle.sheet.specs.Tests.{if_then_else_}
+use Rattle.sheet.specs.Layout.{UnitRow, Sheet, unitRow, byte, le16, le32}
+
+-- the unit row that starts at byte `at`
+unfoldable pub unitRowAt : List ℕ → ℕ → UnitRow
+unitRowAt bytes at = record {
+  id = le32 bytes at;
+  status = byte bytes (at + 4);
+  waterClass = byte bytes (at + 5);
+  locationFactor = le16 bytes (at + 6);
+  heatedArea = le32 bytes (at + 8);
+  riserSurface = le32 bytes (at + 12);
+  heatLoad = le32 bytes (at + 16);
+  reading = le32 bytes (at + 20);
+  litres = le32 bytes (at + 24);
+  persons = le16 bytes (at + 28);
+  reserved = le16 bytes (at + 30);
+}
+
+-- unit i, from 0; past the last one all fields are 0
+abbrev pub unitOf : Sheet → ℕ → UnitRow
+unitOf s i = getD (s .units) i (unitRow [])
+
+-- a unit's fields from 0 on: id, status, water class, KF, p, s, q, b, litres, persons, reserved
+abbrev pub rowFields : UnitRow → List ℕ
+rowFields u =
+    u .id
+    ∷ u .status
+    ∷ u .waterClass
+    ∷ u .locationFactor
+    ∷ u .heatedArea
+    ∷ u .riserSurface
+    ∷ u .heatLoad
+    ∷ u .reading
+    ∷ u .litres
+    ∷ u .persons
+    ∷ u .reserved
+    ∷ []
+
+abbrev pub rowField : UnitRow → ℕ → ℕ
+rowField u k = getD (rowFields u) k 0
+
+-- the header's fields after the version, from 0 on: month, model, n, source, v, z, y, f, t, M, price, h1 .. h6
+abbrev pub headerFields : Sheet → List ℕ
+headerFields s =
+    s .month
+    ∷ s .model
+    ∷ s .unitCount
+    ∷ s .waterSource
+    ∷ s .basePercent
+    ∷ s .commonHeatPercent
+    ∷ s .commonWaterPercent
+    ∷ s .unmeteredFactor
+    ∷ s .lossFactor
+    ∷ s .sharedMeter
+    ∷ s .price
+    ∷ s .waterReadings
+
+abbrev pub headerField : Sheet → ℕ → ℕ
+headerField s k = getD (headerFields s) k 0
+
+-- the id before unit i; the first unit has none before it
+abbrev pub idBefore : Sheet → ℕ → Option ℕ
+idBefore s zero = none
+idBefore s (suc i) = some (unitOf s i .id)
+
+-- field k of the row at byte `at`; 0 where the row isn't wholly inside or has no field k
+abbrev pub fieldAt : List ℕ → ℕ → ℕ → ℕ
+fieldAt bytes at k = if leb (at + 32) (length bytes) then rowField (unitRowAt bytes at) k else 0

@@ -1,0 +1,68 @@
+-- Refusals: their numbers, their places and their order (document 01, "Refused sheets and calls").
+use mathlib.Core.Bool.{Bool, true, false}
+use mathlib.Core.List.{List, [], _∷_}
+use Prim.Native.Nat.{ℕ, _<_}
+use Rattle.sheet.specs.declared.refusal.Refusal.{Refusal}
+use Rattle.sheet.specs.declared.refusal.Refusal.the-variants.{TooShort, BadMagic, UnsupportedVersion, HeaderField, WrongLength, RowField, IdOrder}
+use Rattle.sheet.specs.declared.refusal.Refusal.the-variants.{HotWaterExceedsMeter, ZeroDivisor, NoReadings, MetersExceedHeat, UnmeteredExceedsHeat}
+use Rattle.sheet.specs.declared.refusal.Refusal.the-variants.{BufferLength, BadArchive, BadYearBook, OtherBuilding, MonthState, NoSuchUnit}
+use Rattle.sheet.specs.declared.refusal.Outcome.{Outcome}
+use Rattle.sheet.specs.declared.refusal.Outcome.the-variants.{Accepted, Refused}
+
+-- the document's number, with the trade's word
+abbrev pub numberOf : Refusal → ℕ
+numberOf TooShort = 1  -- stub
+numberOf BadMagic = 2  -- mark
+numberOf UnsupportedVersion = 3  -- version
+numberOf HeaderField = 4  -- header
+numberOf WrongLength = 5  -- length
+numberOf (RowField i) = 6  -- row
+numberOf (IdOrder i) = 7  -- order
+numberOf HotWaterExceedsMeter = 8  -- water
+numberOf ZeroDivisor = 9  -- divisor
+numberOf NoReadings = 10  -- unread
+numberOf MetersExceedHeat = 11  -- calorimeters
+numberOf UnmeteredExceedsHeat = 12  -- overcharge
+numberOf BufferLength = 13  -- list
+numberOf BadArchive = 14  -- archive
+numberOf BadYearBook = 15  -- book
+numberOf OtherBuilding = 16  -- building
+numberOf MonthState = 17  -- month
+numberOf NoSuchUnit = 18  -- place
+
+-- the place: the row from 0 for 6 and 7, else 0
+abbrev pub placeOf : Refusal → ℕ
+placeOf TooShort = 0
+placeOf BadMagic = 0
+placeOf UnsupportedVersion = 0
+placeOf HeaderField = 0
+placeOf WrongLength = 0
+placeOf (RowField i) = i
+placeOf (IdOrder i) = i
+placeOf HotWaterExceedsMeter = 0
+placeOf ZeroDivisor = 0
+placeOf NoReadings = 0
+placeOf MetersExceedHeat = 0
+placeOf UnmeteredExceedsHeat = 0
+placeOf BufferLength = 0
+placeOf BadArchive = 0
+placeOf BadYearBook = 0
+placeOf OtherBuilding = 0
+placeOf MonthState = 0
+placeOf NoSuchUnit = 0
+
+-- A rule `condition ⇒ refusal`.
+infix 20 _⇒_
+pub data Rule : Type 0 where
+  _⇒_ : Bool → Refusal → Rule
+
+-- Of a list of rules the first whose condition holds decides.
+unfoldable pub firstRefusal : List Rule → Outcome
+firstRefusal [] = Accepted
+firstRefusal ((true ⇒ r) ∷ rules) = Refused r
+firstRefusal ((false ⇒ r) ∷ rules) = firstRefusal rules
+
+-- a refusal's place is below k
+abbrev pub PlaceBelow : ℕ → Outcome → Type 0
+PlaceBelow k Accepted = Unit {0}
+PlaceBelow k (Refused r) = placeOf r < k

@@ -1,0 +1,66 @@
+// The header (document 01, "The sheet"): its fields after the version, numbered in layout order.
+ghost use mathlib.Core.Path.{_≡_};
+ghost use Prim.Native.Nat.{_≤_, _<_};
+ghost use lib.ListN.{length};
+ghost use Rattle.sheet.specs.Tests.{all};
+ghost use Rattle.sheet.specs.Layout.{sheetOf};
+ghost use Rattle.sheet.specs.Fields.{headerField};
+ghost use Rattle.sheet.specs.Check.{headerTests};
+use crate::bytes;
+use crate::ranges;
+
+pub const MONTH: usize = 0;
+
+pub const MODEL: usize = 1;
+
+pub const UNIT_COUNT: usize = 2;
+
+pub const WATER_SOURCE: usize = 3;
+
+pub const BASE_PERCENT: usize = 4;
+
+pub const COMMON_HEAT_PERCENT: usize = 5;
+
+pub const COMMON_WATER_PERCENT: usize = 6;
+
+pub const UNMETERED_FACTOR: usize = 7;
+
+pub const LOSS_FACTOR: usize = 8;
+
+pub const SHARED_METER: usize = 9;
+
+pub const PRICE: usize = 10;
+
+// h1; h2 to h6 follow.
+pub const WATER_READING: usize = 11;
+
+pub fn header_field(s: &[u8], k: usize) -> u32
+    requires { ⌜ (48 ≤ length (now s)) × (k < 17) ⌝ }
+    ensures { λ r. ⌜ r ≡ headerField (sheetOf (now (s .entry))) k ⌝ }
+{
+    if k < UNIT_COUNT {
+        return bytes::read8(s, 6 + k);
+    }
+    if k == UNIT_COUNT {
+        return bytes::read16(s, 8);
+    }
+    if k < SHARED_METER {
+        return bytes::read8(s, 7 + k);
+    }
+    bytes::read32(s, 4 * k - 20)
+}
+
+// 4: every field is within its range.
+pub(crate) fn header_fits(s: &[u8]) -> bool
+    requires { ⌜ 48 ≤ length (now s) ⌝ }
+    ensures { λ r. ⌜ r ≡ all (headerTests (sheetOf (now (s .entry)))) ⌝ }
+{
+    let ranges = ranges::header_ranges(header_field(s, MODEL), header_field(s, WATER_SOURCE));
+    for k in 0..17usize {
+        let range = ranges[k];
+        if !ranges::within(header_field(s, k), range) {
+            return false;
+        }
+    }
+    true
+}

@@ -1,0 +1,19 @@
+// The sheet of one building month: layout, ranges, refusals 1 to 7 (document 01, "The sheet").
+mod bytes;
+mod check;
+pub mod header;
+mod ranges;
+mod refusal;
+pub mod rows;
+mod tables;
+mod watt_hours;
+
+pub use check::check_record_part;
+pub use check::check_sheet;
+pub use ranges::Range;
+pub use refusal::Outcome;
+pub use refusal::Refusal;
+pub use refusal::number;
+pub use refusal::place;
+pub use watt_hours::Sum;
+pub use watt_hours::Wh;
