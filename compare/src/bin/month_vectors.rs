@@ -4,7 +4,7 @@ use compare::cases::*;
 use compare::print::print_statement;
 use compare::rng::Rng;
 use compare::samples::{good_sheet, random_ids, random_sheet_of};
-use compare::settle::settle_sheet;
+use compare::settle::{settle, settle_sheet};
 use compare::sheet::{build_sheet, Sheet, Unit, MAX_WH};
 use compare::vectors::{pack, write_files};
 
@@ -474,6 +474,29 @@ fn set_status(unit: &mut Unit, status: u8) {
     }
 }
 
+/// What the settle call answers for lists of 8n, 8n + 1 and 8n - 1 numbers
+/// that held nines: the length, the refusal's number and place, and the
+/// list afterwards as one number.
+fn list_lines(bytes: &[u8]) -> String {
+    let n = match bytes.get(8..10) {
+        Some(count) => usize::from(u16::from_le_bytes([count[0], count[1]])).min(160),
+        None => 0,
+    };
+    let lengths = [8 * n, 8 * n + 1, (8 * n).saturating_sub(1)];
+    lengths.iter().map(|len| list_line(bytes, *len)).collect()
+}
+
+fn list_line(bytes: &[u8], len: usize) -> String {
+    let (number, place, list) = match settle(bytes, len) {
+        Ok(outcome) => (0, 0, outcome.numbers),
+        Err(refusal) => (refusal.number, refusal.place, vec![9; len]),
+    };
+    let digest = list.iter().fold(0u64, |sum, number| {
+        (31 * sum + u64::from(*number)) % 1_000_000_007
+    });
+    format!("list {len} {number} {place} {digest}\n")
+}
+
 fn main() {
     let mut rng = Rng::new(103);
     let mut sheets = Sheets(Vec::new());
@@ -495,7 +518,7 @@ fn main() {
     let stdout: String = sheets
         .0
         .iter()
-        .map(|bytes| print_statement(bytes))
+        .map(|bytes| print_statement(bytes) + &list_lines(bytes))
         .collect();
     write_files(&pack(&sheets.0), &stdout);
 }

@@ -6,5 +6,6 @@ pub mod Rounding
 pub mod Divisions
 pub mod Sums
 pub mod Laws
+pub mod Places
 pub mod Bounds
 pub mod DivisionBounds

@@ -29,7 +29,7 @@ pub const PERSONS: usize = 9;
 pub const RESERVED: usize = 10;
 
 // Field k of the row at byte `at`; 0 where the row isn't wholly inside or has no field k.
-pub(crate) fn field_at(s: &[u8], at: usize, k: usize) -> u32
+pub fn field_at(s: &[u8], at: usize, k: usize) -> u32
     ensures { λ r. ⌜ r ≡ fieldAt (now (s .entry)) at k ⌝ }
 {
     if s.len() < 32 {

@@ -1,0 +1,2 @@
+-- What the calls for other languages answer.
+pub mod Answer

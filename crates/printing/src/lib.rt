@@ -1,0 +1,113 @@
+// What the program `statement` reads and prints (document 01, "Printing").
+ghost use Prim.Native.Nat.{_<_};
+use libc::STDIN_FILENO;
+use libc::STDOUT_FILENO;
+use sheet::Outcome;
+use sheet::Refusal;
+use sheet::rows;
+
+fn word(x: u32) {
+    io::write_all(STDOUT_FILENO, b" ");
+    io::print_decimal(STDOUT_FILENO, x as u64);
+}
+
+fn newline() {
+    io::write_all(STDOUT_FILENO, b"\n");
+}
+
+// `refused`, number, place.
+fn print_refusal(r: Refusal) {
+    io::write_all(STDOUT_FILENO, b"refused");
+    word(sheet::number(r));
+    word(sheet::place(r));
+    newline();
+}
+
+// Month, n, M, bill.
+fn print_head(month: u32, count: u32, meter: u32, bill: u32) {
+    io::write_all(STDOUT_FILENO, b"month");
+    word(month);
+    io::write_all(STDOUT_FILENO, b" units");
+    word(count);
+    io::write_all(STDOUT_FILENO, b" wh");
+    word(meter);
+    io::write_all(STDOUT_FILENO, b" cents");
+    word(bill);
+    newline();
+}
+
+// Id, four Wh, four cents.
+fn print_unit(id: u32, numbers: &[u32]) {
+    io::print_decimal(STDOUT_FILENO, id as u64);
+    let mut j = 0;
+    while j < numbers.len() {
+        word(numbers[j]);
+        j += 1;
+    }
+    newline();
+}
+
+fn print_row(sheet: &[u8], i: usize, numbers: &[u32])
+    requires { ⌜ i < 160 ⌝ }
+{
+    let at = 8 * i;
+    let end = at + 8;
+    if end <= numbers.len() {
+        print_unit(
+            rows::field_at(sheet, 48 + 32 * i, rows::ID),
+            &numbers[at..end],
+        );
+    }
+}
+
+// No month has more than 160 units.
+fn print_units(sheet: &[u8], count: usize, numbers: &[u32]) {
+    for i in 0..160usize {
+        if i < count {
+            print_row(sheet, i, numbers);
+        }
+    }
+}
+
+// The lines of a sheet: its month, or the refusal.
+pub fn print_sheet(sheet: &[u8]) {
+    let r = settlement::settle_sheet(sheet);
+    let outcome = r.outcome;
+    let numbers = r.numbers;
+    match outcome {
+        Outcome::Refused(f) => print_refusal(f),
+        Outcome::Accepted => {
+            print_head(r.month, r.count, r.meter, r.bill);
+            print_units(sheet, r.count as usize, &numbers);
+        }
+    }
+}
+
+// One byte more than the longest sheet: a longer input has the refusal of its first 5,169 bytes.
+const ROOM: usize = 5169;
+
+// Fills the buffer from standard input, as far as it goes. How many bytes were read, or more than ROOM where a read failed.
+fn read_input(buffer: &mut [u8]) -> usize {
+    let mut done = 0;
+    while done < buffer.len() {
+        let got = libc::read(STDIN_FILENO, &mut buffer[done..]);
+        if got < 0 {
+            return ROOM + 1;
+        }
+        let n = io::count(got, &buffer[done..]);
+        if n == 0 {
+            return done;
+        }
+        done += n;
+    }
+    done
+}
+
+// A read that fails prints nothing.
+pub fn run() {
+    let mut buffer = [0u8; ROOM];
+    let n = read_input(&mut buffer);
+    if n <= ROOM {
+        print_sheet(&buffer[..n]);
+    }
+}

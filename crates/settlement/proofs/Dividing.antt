@@ -1,0 +1,88 @@
+-- What each division goes by, that it fits, and that one over all units gives each unit a number. Assumes nothing.
+use mathlib.Core.Path.{_≡_, refl, sym, ap, subst, _∙_}
+use mathlib.Core.Bool.{true}
+use mathlib.Core.List.{List, [], _∷_, map}
+use Prim.Native.Nat.{ℕ, _-_, _^_, _≤_, _<_}
+use native.Mathlib.Omega.{arith}
+use lib.ListN.{length, take, length-map}
+use lib.Seq.{length-take-le}
+use Rattle.apportion.specs.Shares.{sum, shares}
+use Rattle.apportion.proofs.Laws.{shares-fair}
+use Rattle.sheet.specs.Layout.{UnitRow, Sheet, sheetOf}
+use Rattle.month.specs.Weights.{those, totalArea, unreadWeights, readWeights}
+use Rattle.month.specs.Steps.{wholeWh, waterParts}
+use Rattle.month.specs.Accepted.{CheckedSheet}
+use Rattle.month.proofs.Accepted.{load-positive, area-positive}
+use Rattle.month.proofs.Bounds.{sum-bounds, weight-bounds}
+use Rattle.month.proofs.Divisions.{units-heat, common-heat, water-divisible, common-water-divisible}
+use Rattle.month.proofs.DivisionBounds.{units-heat-le, common-heat-le, units-water-le, common-water-le}
+use Rattle.settlement.specs.By.{takesPart, weightOf, weightsBy}
+use Rattle.settlement.specs.Ready.{Accepts}
+use Rattle.settlement.specs.declared.gather.By.{By}
+use Rattle.settlement.specs.declared.gather.By.the-variants.{Load, Area, Unread, Read, Water, Persons}
+use Rattle.settlement.specs.declared.totals.Totals.{Totals}
+
+pub those-all : (us : List UnitRow) → those (λ u. true) us ≡ us
+those-all [] = refl
+those-all (u ∷ us) = ap (λ (r : List UnitRow). u ∷ r) (those-all us)
+
+-- as many shares as units
+pub counted : (f : UnitRow → ℕ) (us : List UnitRow) (out : List ℕ) {total r : ℕ} → (sum (map f us) ≡ 0 → total ≡ 0) → r ≤ length out → take r out ≡ shares total (map f us) → r ≡ length us
+counted f us out {total} {r} d h e = sym (length-take-le r out h) ∙ ap length e ∙ shares-fair total (map f us) d .as-many ∙ length-map us f
+
+-- what dividing by these weights asks for
+abbrev pub Divides : Sheet → By → ℕ → Type 0
+Divides s by total = (total < 2 ^ 32 - 1) × (sum (weightsBy by s) ≡ 0 → total ≡ 0)
+
+-- every unit takes part
+abbrev All : By → Type 0
+All by = takesPart by ≡ (λ (u : UnitRow). true)
+
+of-all : (s : Sheet) (by : By) → All by → weightsBy by s ≡ map (weightOf by s) (s .units)
+unfolding weightsBy
+of-all s by all = rw (all, those-all)
+
+-- EVERY DIVISION'S WEIGHTS FIT
+pub weights-fit : (s : Sheet) → CheckedSheet s → (by : By) → sum (weightsBy by s) < 2 ^ 62
+unfolding weightsBy totalArea unreadWeights readWeights
+weights-fit s c Load = rw those-all (omega (arith, sum-bounds s c .heat-loads))
+weights-fit s c Area = rw those-all (omega (arith, sum-bounds s c .total-area))
+weights-fit s c Unread = omega (arith, weight-bounds s c .unread)
+weights-fit s c Read = omega (arith, weight-bounds s c .read)
+weights-fit s c Water = rw those-all (omega (arith, weight-bounds s c .water))
+weights-fit s c Persons = rw those-all (omega (arith, sum-bounds s c .persons))
+
+module _ {bytes : List ℕ} {n : ℕ} {t : Totals} (a : Accepts bytes n t) where
+  abbrev s : Sheet
+  s = sheetOf bytes
+
+  -- ---- each division over all units, and that it can be made
+  divides : (by : By) → All by → (total : ℕ) → total ≤ 4000000000 → (sum (map (weightOf by s) (s .units)) ≡ 0 → total ≡ 0) → Divides s by total
+  divides by all total h d = (omega arith, rw (of-all s by all) d)
+
+  pub load-heat : s .model ≡ 1 → Divides s Load (units-heat s)
+  load-heat m = divides Load refl (units-heat s) (units-heat-le s (a .accepted)) (λ z. absurd (omega (arith, load-positive s (a .accepted) m)))
+
+  by-area : (total : ℕ) → total ≤ 4000000000 → Divides s Area total
+  by-area total h = divides Area refl total h (λ z. absurd (omega (arith, area-positive s (a .accepted))))
+
+  pub area-heat : Divides s Area (units-heat s)
+  area-heat = by-area (units-heat s) (units-heat-le s (a .accepted))
+
+  pub area-common-heat : Divides s Area (common-heat s)
+  area-common-heat = by-area (common-heat s) (common-heat-le s (a .accepted))
+
+  pub weighed-water : Divides s Water (waterParts wholeWh s .ofUnits)
+  weighed-water = divides Water refl (waterParts wholeWh s .ofUnits) (units-water-le s (a .accepted)) (water-divisible s (a .accepted))
+
+  pub persons-water : Divides s Persons (waterParts wholeWh s .common)
+  persons-water = divides Persons refl (waterParts wholeWh s .common) (common-water-le s (a .accepted)) (common-water-divisible s (a .accepted))
+
+  -- A NUMBER FOR EACH UNIT
+  pub over-units : (by : By) → All by → {total whole r : ℕ} → Divides s by whole → total ≡ whole
+      → (out : List ℕ) → length out ≡ 160 → (r ≤ n) × (take r out ≡ shares total (weightsBy by s)) → take n out ≡ shares whole (map (weightOf by s) (s .units))
+  over-units by all {total} {whole} {r} d e out l g =
+      let f : take r out ≡ shares whole (map (weightOf by s) (s .units)) = g .1 ∙ rw (e, of-all s by all) in
+      let c : r ≡ length (s .units) = counted (weightOf by s) (s .units) out (rw (of-all s by all) at (d .1)) (omega arith) f in
+      let k : r ≡ n = omega arith in
+      subst (λ (j : ℕ). take j out ≡ shares whole (map (weightOf by s) (s .units))) k f

@@ -1,0 +1,56 @@
+-- The parts lent to `apportion` have m numbers each.
+use mathlib.Core.Path.{_≡_, sym, ap, _∙_}
+use native.Mathlib.Omega.{arith}
+use borrow.Author.Needs.{needs}
+use lib.ListN.{length, take, drop, replicate}
+use lib.Seq.{length-take-le, take-at}
+use Rattle.apportion.proofs.Laws.{shares-fair}
+use Rattle.settlement.proofs.bill.share_bill.Statement.{statement}
+use Rattle.settlement.proofs.bill.share_bill.Tie as tie
+
+slice-aggregate-apportion : tie.Need-slice-aggregate-apportion
+slice-aggregate-apportion c = let a = c .before .before .before .args in sym (length-take-le (a .m) (a .ws .now) (omega arith))
+
+array-borrow-prefix-remainders : tie.Need-array-borrow-prefix-remainders
+array-borrow-prefix-remainders c = search needs
+
+slice-aggregate-apportion-2 : tie.Need-slice-aggregate-apportion-2
+slice-aggregate-apportion-2 c = let a = c .before .before .before .before .args in sym (length-take-le (a .m) (replicate 640 0) (omega arith))
+
+slice-relend-prefix-apportion : tie.Need-slice-relend-prefix-apportion
+slice-relend-prefix-apportion c = search needs
+
+slice-aggregate-apportion-3 : tie.Need-slice-aggregate-apportion-3
+slice-aggregate-apportion-3 c = let a = c .before .before .before .before .before .args in sym (length-take-le (a .m) (a .out .now) (omega arith))
+
+apportion-requires : tie.Need-apportion-requires
+apportion-requires c κs =
+    let st = c .before .before .before .before .before in
+    let a = st .args in
+    let w : length (take (a .m) (a .ws .now)) ≡ a .m = length-take-le (a .m) (a .ws .now) (omega arith) in
+    (st .pre .1, (length-take-le (a .m) (replicate 640 0) (omega arith) ∙ sym w, length-take-le (a .m) (a .out .now) (omega arith) ∙ sym w))
+
+same-length : tie.Need-same-length
+same-length c = search needs
+
+returns : tie.Need-returns
+returns c =
+    let st = c .before .before .before .before .before .before .before .before .before in
+    let a = st .args in
+    let ws = take (a .m) (a .ws .now) in
+    let p = c .before .before .before .apportion in
+    let l : length (p .last .1 .1 .1 .0) ≡ a .m = ap length (p .ensures .0) ∙ shares-fair (a .total) ws (st .pre .1 .2) .as-many ∙ length-take-le (a .m) (a .ws .now) (omega arith) in
+    take-at (p .last .1 .1 .1 .0) (drop (a .m) (a .out .now)) (a .m) l ∙ p .ensures .0
+
+pub share-bill-spec : {M : Type 1} → statement M
+share-bill-spec =
+    tie.close
+    (tie.spec
+    slice-aggregate-apportion
+    array-borrow-prefix-remainders
+    slice-aggregate-apportion-2
+    slice-relend-prefix-apportion
+    slice-aggregate-apportion-3
+    apportion-requires
+    same-length
+    returns)

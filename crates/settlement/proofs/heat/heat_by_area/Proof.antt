@@ -1,0 +1,32 @@
+-- Units' heat over all units by p. Assumes nothing.
+use mathlib.Core.Path.{refl}
+use native.Mathlib.Omega.{arith}
+use borrow.Author.Tests.{eq-eqb, ne-eqb}
+use borrow.Author.Needs.{needs}
+use Rattle.sheet.specs.Layout.{sheetOf}
+use Rattle.month.specs.Weights.{allMetered}
+use Rattle.month.specs.Steps.{heat}
+use Rattle.settlement.specs.declared.gather.By.the-variants.{Area}
+use Rattle.settlement.proofs.Dividing.{area-heat, over-units}
+use Rattle.settlement.proofs.heat.heat_by_area.Statement.{statement}
+use Rattle.settlement.proofs.heat.heat_by_area.Tie as tie
+
+divide-by-requires : tie.Need-divide-by-requires
+divide-by-requires c κs =
+    let st = c .before .before .before in
+    ((st .pre .0, st .pre .1), rw (st .pre .3) (area-heat (st .pre .0)))
+
+same-length : tie.Need-same-length
+same-length c = search needs
+
+returns : tie.Need-returns
+unfolding heat allMetered
+returns c =
+    let st = c .before .before .before .before .before .before in
+    let d = c .before .before .divide-by in
+    let m = sheetOf (st .args .s .now) .model in
+    rw (ne-eqb m 5 (λ z. omega arith), ne-eqb m 1 (λ z. omega arith), eq-eqb m 2 (st .pre .2))
+    (over-units (st .pre .0) Area refl (area-heat (st .pre .0)) (st .pre .3) (d .last .1 .1 .1 .1 .1 .0) (omega arith) (d .ensures))
+
+pub heat-by-area-spec : {M : Type 1} → statement M
+heat-by-area-spec = tie.close (tie.spec divide-by-requires same-length returns)

@@ -1,0 +1,114 @@
+// Step 7 and the statement: per unit four Wh, four cents.
+ghost use mathlib.Core.Path.{_≡_};
+ghost use mathlib.Core.List.{[], _∷_, _++_};
+ghost use Prim.Native.Nat.{_+_, _*_, _-_, _^_, _≤_, _<_};
+ghost use lib.ListN.{length, take, replicate};
+ghost use Rattle.apportion.specs.Shares.{sum, shares};
+ghost use Rattle.sheet.specs.Layout.{sheetOf};
+ghost use Rattle.sheet.specs.Fits.{Fits};
+ghost use Rattle.month.specs.Steps.{wholeWh, unitByUnit, heat, commonHeat, water, commonWater};
+ghost use Rattle.month.specs.Month.{billCents, fourAndFour, statementOf};
+ghost use Rattle.settlement.specs.Ready.{Accepts};
+use crate::totals::Totals;
+use crate::weights::head;
+use crate::weights::wide;
+use sheet::header;
+
+// M × price / 1,000,000 in cents, half up.
+pub(crate) fn bill(s: &[u8]) -> u64
+    requires { ⌜ Fits 32 (now s) ⌝ }
+    ensures { λ r. ⌜ r ≡ billCents (sheetOf (now (s .entry))) ⌝ }
+{
+    (head(s, header::SHARED_METER) * head(s, header::PRICE) + 500000) / 1000000
+}
+
+fn put_four_weights(out: &mut [u64], at: usize, a: u64, b: u64, c: u64, d: u64)
+    requires { ⌜ (at + 4 ≤ length (now out)) × (at < 2000) ⌝ }
+    ensures { λ r. ⌜ take (at + 4) (now (out .exit)) ≡ take at (now (out .entry)) ++ (a ∷ b ∷ c ∷ d ∷ []) ⌝ }
+{
+    out[at] = a;
+    out[at + 1] = b;
+    out[at + 2] = c;
+    out[at + 3] = d;
+}
+
+// The 4n energies as weights, unit by unit.
+fn energy_weights(n: usize, a: &[u32], b: &[u32], c: &[u32], d: &[u32], out: &mut [u64])
+    requires { ⌜ (n ≤ 160) × (length (now a) ≡ 160) × (length (now b) ≡ 160) × (length (now c) ≡ 160) × (length (now d) ≡ 160) × (length (now out) ≡ 640) ⌝ }
+    ensures { λ r. ⌜ take (4 * n) (now (out .exit)) ≡ unitByUnit wholeWh n (now (a .entry)) (now (b .entry)) (now (c .entry)) (now (d .entry)) ⌝ }
+{
+    for i in 0..n {
+        put_four_weights(out, 4 * i, wide(a[i]), wide(b[i]), wide(c[i]), wide(d[i]));
+    }
+}
+
+// The bill divided over the first m of the energies.
+fn share_bill(total: u64, m: usize, ws: &[u64], out: &mut [u32])
+    requires { ⌜ (m ≤ 640) × (m ≤ length (now ws)) × (m ≤ length (now out)) ⌝ }
+    requires { ⌜ (total < 2 ^ 32 - 1) × (sum (take m (now ws)) < 2 ^ 62) × (sum (take m (now ws)) ≡ 0 → total ≡ 0) ⌝ }
+    ensures { λ r. ⌜ take m (now (out .exit)) ≡ shares total (take m (now (ws .entry))) ⌝ }
+{
+    let mut remainders = [0u64; 640];
+    apportion::apportion(total, &ws[..m], &mut remainders[..m], &mut out[..m]);
+}
+
+fn put_four(out: &mut [u32], at: usize, a: u32, b: u32, c: u32, d: u32)
+    requires { ⌜ (at + 4 ≤ length (now out)) × (at < 2000) ⌝ }
+    ensures { λ r. ⌜ take (at + 4) (now (out .exit)) ≡ take at (now (out .entry)) ++ (a ∷ b ∷ c ∷ d ∷ []) ⌝ }
+{
+    out[at] = a;
+    out[at + 1] = b;
+    out[at + 2] = c;
+    out[at + 3] = d;
+}
+
+fn statement_rows(
+    n: usize,
+    a: &[u32],
+    b: &[u32],
+    c: &[u32],
+    d: &[u32],
+    cents: &[u32],
+    out: &mut [u32],
+)
+    requires { ⌜ (n ≤ 160) × (length (now a) ≡ 160) × (length (now b) ≡ 160) × (length (now c) ≡ 160) × (length (now d) ≡ 160) ⌝ }
+    requires { ⌜ (length (now cents) ≡ 640) × (length (now out) ≡ 8 * n) ⌝ }
+    ensures { λ r. ⌜ now (out .exit) ≡ fourAndFour n (unitByUnit wholeWh n (now (a .entry)) (now (b .entry)) (now (c .entry)) (now (d .entry))) (now (cents .entry)) ⌝ }
+{
+    for i in 0..n {
+        let at = 8 * i;
+        let k = 4 * i;
+        put_four(out, at, a[i], b[i], c[i], d[i]);
+        put_four(
+            out,
+            at + 4,
+            cents[k],
+            cents[k + 1],
+            cents[k + 2],
+            cents[k + 3],
+        );
+    }
+}
+
+// The statement from the four energies, with zeros after it.
+pub(crate) fn numbers(
+    s: &[u8],
+    n: usize,
+    t: Totals,
+    a: &[u32],
+    b: &[u32],
+    c: &[u32],
+    d: &[u32],
+) -> [u32; 1280]
+    requires { ⌜ Accepts (now s) n t × (length (now a) ≡ 160) × (length (now b) ≡ 160) × (length (now c) ≡ 160) × (length (now d) ≡ 160) ⌝ }
+    requires { ⌜ (take n (now a) ≡ heat wholeWh (sheetOf (now s))) × (take n (now b) ≡ commonHeat wholeWh (sheetOf (now s))) × (take n (now c) ≡ water wholeWh (sheetOf (now s))) × (take n (now d) ≡ commonWater wholeWh (sheetOf (now s))) ⌝ }
+    ensures { λ r. ⌜ r ≡ statementOf (sheetOf (now (s .entry))) ++ replicate (1280 - 8 * n) 0 ⌝ }
+{
+    let mut ws = [0u64; 640];
+    let mut cents = [0u32; 640];
+    let mut out = [0u32; 1280];
+    energy_weights(n, a, b, c, d, &mut ws);
+    share_bill(bill(s), 4 * n, &ws, &mut cents);
+    statement_rows(n, a, b, c, d, &cents, &mut out[..8 * n]);
+    out
+}

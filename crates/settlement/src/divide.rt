@@ -1,0 +1,55 @@
+// The divisions of a month.
+ghost use mathlib.Core.Path.{_≡_};
+ghost use Prim.Native.Nat.{_-_, _^_, _≤_, _<_};
+ghost use lib.ListN.{length, take};
+ghost use Rattle.apportion.specs.Shares.{sum, shares};
+ghost use Rattle.sheet.specs.Layout.{sheetOf};
+ghost use Rattle.month.specs.Steps.{wholeWh, splitBy};
+ghost use Rattle.settlement.specs.By.{weightsBy};
+ghost use Rattle.settlement.specs.Ready.{Accepts};
+use crate::gather::By;
+use crate::gather::gather;
+use crate::totals::Totals;
+use crate::weights::wide;
+
+// The total divided by the first m weights.
+pub(crate) fn share(total: u64, m: usize, ws: &[u64], out: &mut [u32])
+    requires { ⌜ (m ≤ 160) × (m ≤ length (now ws)) × (m ≤ length (now out)) ⌝ }
+    requires { ⌜ (total < 2 ^ 32 - 1) × (sum (take m (now ws)) < 2 ^ 62) × (sum (take m (now ws)) ≡ 0 → total ≡ 0) ⌝ }
+    ensures { λ r. ⌜ take m (now (out .exit)) ≡ shares total (take m (now (ws .entry))) ⌝ }
+{
+    let mut remainders = [0u64; 160];
+    apportion::apportion(total, &ws[..m], &mut remainders[..m], &mut out[..m]);
+}
+
+// The total divided by the weights of the units that take part; returns how many they are.
+pub(crate) fn divide_by(s: &[u8], n: usize, by: By, t: Totals, total: u64, out: &mut [u32]) -> usize
+    requires { ⌜ Accepts (now s) n t × (length (now out) ≡ 160) ⌝ }
+    requires { ⌜ (total < 2 ^ 32 - 1) × (sum (weightsBy by (sheetOf (now s))) ≡ 0 → total ≡ 0) ⌝ }
+    ensures { λ r. ⌜ (r ≤ n) × (take r (now (out .exit)) ≡ shares total (weightsBy by (sheetOf (now (s .entry))))) ⌝ }
+{
+    let mut ws = [0u64; 160];
+    let m = gather(s, n, by, t, &mut ws);
+    share(total, m, &ws, out);
+    m
+}
+
+// The units' part and the common part.
+pub struct Parts {
+    pub units: u64,
+    pub common: u64,
+}
+
+// Divided by (100 − percent, percent).
+pub(crate) fn split(percent: u64, total: u64) -> Parts
+    requires { ⌜ (total < 2 ^ 32 - 1) × (percent ≤ 100) ⌝ }
+    ensures { λ r. ⌜ (r .units ≡ splitBy wholeWh percent total .ofUnits) × (r .common ≡ splitBy wholeWh percent total .common) ⌝ }
+{
+    let ws = [100 - percent, percent];
+    let mut out = [0u32; 2];
+    share(total, 2, &ws, &mut out);
+    Parts {
+        units: wide(out[0]),
+        common: wide(out[1]),
+    }
+}

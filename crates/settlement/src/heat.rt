@@ -1,0 +1,142 @@
+// Steps 2 to 5: units' heat and common heat.
+ghost use mathlib.Core.Path.{_≡_};
+ghost use mathlib.Core.Bool.{true, false};
+ghost use mathlib.Core.List.{map};
+ghost use Prim.Native.Nat.{_+_, _≤_, _<_};
+ghost use lib.ListN.{length, take};
+ghost use Rattle.sheet.specs.Tests.{if_then_else_};
+ghost use Rattle.sheet.specs.Layout.{sheetOf};
+ghost use Rattle.sheet.specs.Fits.{Fits};
+ghost use Rattle.month.specs.Weights.{unreadUnits, allMetered};
+ghost use Rattle.month.specs.Steps.{wholeWh, heatParts, poolShares, inUnitOrder, heat, commonHeat};
+ghost use Rattle.month.specs.Month.{hotWaterWh};
+ghost use Rattle.settlement.specs.Ready.{Ready, Accepts};
+use crate::divide::Parts;
+use crate::divide::divide_by;
+use crate::divide::share;
+use crate::divide::split;
+use crate::gather::By;
+use crate::gather::gather;
+use crate::gather::one_if;
+use crate::refusals::all_metered;
+use crate::totals::Totals;
+use crate::weights::head;
+use crate::weights::wide;
+use sheet::header;
+use sheet::rows;
+
+// Step 2.
+pub(crate) fn heat_parts(s: &[u8], n: usize, t: Totals, h: u64) -> Parts
+    requires { ⌜ Accepts (now s) n t × (h ≡ hotWaterWh (sheetOf (now s))) ⌝ }
+    ensures { λ r. ⌜ (r .units ≡ heatParts wholeWh (sheetOf (now (s .entry))) .ofUnits) × (r .common ≡ heatParts wholeWh (sheetOf (now (s .entry))) .common) ⌝ }
+{
+    let space_heat = head(s, header::SHARED_METER) - h;
+    if all_metered(s, n, t) {
+        return Parts {
+            units: t.readings,
+            common: space_heat - t.readings,
+        };
+    }
+    split(head(s, header::COMMON_HEAT_PERCENT), space_heat)
+}
+
+// Step 2's exception: each unit's heat is its b.
+fn heat_by_meters(s: &[u8], n: usize, out: &mut [u32])
+    requires { ⌜ Fits 32 (now s) × (n ≡ sheetOf (now s) .unitCount) × (length (now out) ≡ 160) × (allMetered (sheetOf (now s)) ≡ true) ⌝ }
+    ensures { λ r. ⌜ take n (now (out .exit)) ≡ heat wholeWh (sheetOf (now (s .entry))) ⌝ }
+{
+    for i in 0..n {
+        out[i] = rows::unit_field(s, i, rows::READING);
+    }
+}
+
+// Step 3, model 1: by q.
+fn heat_by_load(s: &[u8], n: usize, t: Totals, total: u64, out: &mut [u32])
+    requires { ⌜ Accepts (now s) n t × (length (now out) ≡ 160) × (sheetOf (now s) .model ≡ 1) × (total ≡ heatParts wholeWh (sheetOf (now s)) .ofUnits) ⌝ }
+    ensures { λ r. ⌜ take n (now (out .exit)) ≡ heat wholeWh (sheetOf (now (s .entry))) ⌝ }
+{
+    divide_by(s, n, By::Load, t, total, out);
+}
+
+// Step 3, model 2: by p.
+fn heat_by_area(s: &[u8], n: usize, t: Totals, total: u64, out: &mut [u32])
+    requires { ⌜ Accepts (now s) n t × (length (now out) ≡ 160) × (sheetOf (now s) .model ≡ 2) × (total ≡ heatParts wholeWh (sheetOf (now s)) .ofUnits) ⌝ }
+    ensures { λ r. ⌜ take n (now (out .exit)) ≡ heat wholeWh (sheetOf (now (s .entry))) ⌝ }
+{
+    divide_by(s, n, By::Area, t, total, out);
+}
+
+// Step 3, models 3 to 5: the units not read, last the metered pool; returns how many are not read.
+fn pool_shares(s: &[u8], n: usize, t: Totals, total: u64, out: &mut [u32]) -> usize
+    requires { ⌜ Accepts (now s) n t × (length (now out) ≡ 160) × (2 < sheetOf (now s) .model) × (allMetered (sheetOf (now s)) ≡ false) × (total ≡ heatParts wholeWh (sheetOf (now s)) .ofUnits) ⌝ }
+    ensures { λ r. ⌜ (r < 160) × (r ≡ length (unreadUnits (sheetOf (now (s .entry))))) × (take (r + 1) (now (out .exit)) ≡ poolShares wholeWh (sheetOf (now (s .entry)))) ⌝ }
+{
+    let mut ws = [0u64; 160];
+    let m = gather(s, n, By::Unread, t, &mut ws);
+    ws[m] = 10000 * t.area - t.unread;
+    share(total, m + 1, &ws, out);
+    m
+}
+
+fn choose(b: bool, x: u32, y: u32) -> u32
+    ensures { λ r. ⌜ r ≡ (if b then x else y) ⌝ }
+{
+    if b { x } else { y }
+}
+
+// The shares of the units not read and of the read ones, back in the order of the units.
+fn merge(s: &[u8], n: usize, unread: &[u32], read: &[u32], out: &mut [u32])
+    requires { ⌜ Fits 32 (now s) × (n ≡ sheetOf (now s) .unitCount) × (length (now unread) ≡ 160) × (length (now read) ≡ 160) × (length (now out) ≡ 160) ⌝ }
+    ensures { λ r. ⌜ take n (now (out .exit)) ≡ inUnitOrder wholeWh (sheetOf (now (s .entry)) .units) (now (unread .entry)) (now (read .entry)) ⌝ }
+{
+    let mut q: usize = 0;
+    let mut r: usize = 0;
+    for i in 0..n {
+        let status = rows::unit_field(s, i, rows::STATUS);
+        out[i] = choose(status == 0, read[r], unread[q]);
+        q += one_if(status != 0);
+        r += one_if(status == 0);
+    }
+}
+
+// Steps 3 and 4, models 3 to 5.
+fn heat_by_readings(s: &[u8], n: usize, t: Totals, total: u64, out: &mut [u32])
+    requires { ⌜ Accepts (now s) n t × (length (now out) ≡ 160) × (2 < sheetOf (now s) .model) × (allMetered (sheetOf (now s)) ≡ false) × (total ≡ heatParts wholeWh (sheetOf (now s)) .ofUnits) ⌝ }
+    ensures { λ r. ⌜ take n (now (out .exit)) ≡ heat wholeWh (sheetOf (now (s .entry))) ⌝ }
+{
+    let mut unread = [0u32; 160];
+    let mut read = [0u32; 160];
+    let m = pool_shares(s, n, t, total, &mut unread);
+    let pool = wide(unread[m]);
+    divide_by(s, n, By::Read, t, pool, &mut read);
+    merge(s, n, &unread, &read, out);
+}
+
+// Each unit's heat.
+pub(crate) fn unit_heat(s: &[u8], n: usize, t: Totals, total: u64, out: &mut [u32])
+    requires { ⌜ Accepts (now s) n t × (length (now out) ≡ 160) × (total ≡ heatParts wholeWh (sheetOf (now s)) .ofUnits) ⌝ }
+    ensures { λ r. ⌜ take n (now (out .exit)) ≡ heat wholeWh (sheetOf (now (s .entry))) ⌝ }
+{
+    if all_metered(s, n, t) {
+        heat_by_meters(s, n, out);
+        return;
+    }
+    let model = head(s, header::MODEL);
+    if model == 1 {
+        heat_by_load(s, n, t, total, out);
+        return;
+    }
+    if model == 2 {
+        heat_by_area(s, n, t, total, out);
+        return;
+    }
+    heat_by_readings(s, n, t, total, out);
+}
+
+// Step 5: by p.
+pub(crate) fn common_heat(s: &[u8], n: usize, t: Totals, total: u64, out: &mut [u32])
+    requires { ⌜ Accepts (now s) n t × (length (now out) ≡ 160) × (total ≡ heatParts wholeWh (sheetOf (now s)) .common) ⌝ }
+    ensures { λ r. ⌜ take n (now (out .exit)) ≡ commonHeat wholeWh (sheetOf (now (s .entry))) ⌝ }
+{
+    divide_by(s, n, By::Area, t, total, out);
+}

@@ -1,0 +1,164 @@
+// The weight of a unit in each division (document 01, steps 3, 4 and 6).
+ghost use mathlib.Core.Path.{_≡_};
+ghost use mathlib.Core.Bool.{_||_};
+ghost use Prim.Native.Nat.{_+_, _*_, _-_, _≤_, _<_, min, max};
+ghost use lib.Dec.{eqb};
+ghost use lib.ListN.{length};
+ghost use Rattle.sheet.specs.Layout.{sheetOf};
+ghost use Rattle.sheet.specs.Fields.{unitOf, rowField, headerField};
+ghost use Rattle.month.specs.Weights.{limited, areaWeight, surfaceWeight, readWeight, unreadWeight, waterWeight, commonWaterWeight};
+ghost use Rattle.settlement.specs.Ready.{RowReady, Ready};
+use crate::totals::Totals;
+use sheet::header;
+use sheet::rows;
+
+pub(crate) fn wide(x: u32) -> u64
+    ensures { λ r. ⌜ r ≡ x ⌝ }
+{
+    x as u64
+}
+
+// Field k of unit i.
+pub(crate) fn field(s: &[u8], i: usize, k: usize) -> u64
+    requires { ⌜ RowReady (now s) i ⌝ }
+    ensures { λ r. ⌜ r ≡ rowField (unitOf (sheetOf (now (s .entry))) i) k ⌝ }
+{
+    wide(rows::unit_field(s, i, k))
+}
+
+// Field k of the header.
+pub(crate) fn head(s: &[u8], k: usize) -> u64
+    requires { ⌜ (48 ≤ length (now s)) × (k < 17) ⌝ }
+    ensures { λ r. ⌜ r ≡ headerField (sheetOf (now (s .entry))) k ⌝ }
+{
+    wide(header::header_field(s, k))
+}
+
+// Status 1 or 4: the factor for unmetered units applies.
+fn no_device(status: u64) -> bool
+    ensures { λ r. ⌜ r ≡ (eqb status 1 || eqb status 4) ⌝ }
+{
+    status == 1 || status == 4
+}
+
+// Step 3.
+pub(crate) fn unread_weight(s: &[u8], i: usize) -> u64
+    requires { ⌜ RowReady (now s) i ⌝ }
+    ensures { λ r. ⌜ (r ≡ unreadWeight (sheetOf (now (s .entry))) (unitOf (sheetOf (now (s .entry))) i)) × (r ≤ 350000000) ⌝ }
+{
+    let p = field(s, i, rows::HEATED_AREA);
+    if no_device(field(s, i, rows::STATUS)) {
+        return p * field(s, i, rows::LOCATION_FACTOR) * head(s, header::UNMETERED_FACTOR);
+    }
+    p * 10000
+}
+
+fn least(x: u64, y: u64) -> u64
+    ensures { λ r. ⌜ r ≡ min x y ⌝ }
+{
+    if x <= y { x } else { y }
+}
+
+fn greatest(x: u64, y: u64) -> u64
+    ensures { λ r. ⌜ r ≡ max x y ⌝ }
+{
+    if x <= y { y } else { x }
+}
+
+// (100 − v) × x × a + v × y × b
+fn mixed(v: u64, x: u64, a: u64, y: u64, b: u64) -> u64
+    requires { ⌜ (v ≤ 100) × (x ≤ 50000) × (a ≤ 1600000) × (y ≤ 10000) × (b ≤ 8000000) ⌝ }
+    ensures { λ r. ⌜ (r ≡ (100 - v) * x * a + v * y * b) × (r ≤ 16000000000000) ⌝ }
+{
+    (100 - v) * x * a + v * y * b
+}
+
+// Article 8 (6), (7).
+fn limit(base: u64, r: u64) -> u64
+    requires { ⌜ (base ≤ 80000000000) × (r ≤ 16000000000000) ⌝ }
+    ensures { λ o. ⌜ (o ≡ limited base r) × (o ≤ 24000000000000) ⌝ }
+{
+    greatest(40 * base, least(300 * base, r))
+}
+
+// Step 4, model 3.
+fn area_weight(s: &[u8], i: usize, t: Totals) -> u64
+    requires { ⌜ RowReady (now s) i × Ready (now s) t × (sheetOf (now s) .model ≤ 4) ⌝ }
+    ensures { λ r. ⌜ r ≡ areaWeight (sheetOf (now (s .entry))) (unitOf (sheetOf (now (s .entry))) i) ⌝ }
+{
+    let v = head(s, header::BASE_PERCENT);
+    let p = field(s, i, rows::HEATED_AREA);
+    let r = mixed(v, field(s, i, rows::READING), t.readarea, p, t.readings);
+    limit(p * t.readings, r) * field(s, i, rows::LOCATION_FACTOR)
+}
+
+// Step 4, model 4.
+fn surface_weight(s: &[u8], i: usize, t: Totals) -> u64
+    requires { ⌜ RowReady (now s) i × Ready (now s) t × (sheetOf (now s) .model ≤ 4) ⌝ }
+    ensures { λ r. ⌜ r ≡ surfaceWeight (sheetOf (now (s .entry))) (unitOf (sheetOf (now (s .entry))) i) ⌝ }
+{
+    let v = head(s, header::BASE_PERCENT);
+    let area = field(s, i, rows::RISER_SURFACE);
+    mixed(v, field(s, i, rows::READING), t.surface, area, t.readings)
+        * field(s, i, rows::LOCATION_FACTOR)
+}
+
+// Step 4 without any reading: a field × KF.
+fn by_factor(s: &[u8], i: usize, x: u64) -> u64
+    requires { ⌜ RowReady (now s) i × (x ≤ 10000) ⌝ }
+    ensures { λ r. ⌜ r ≡ x * unitOf (sheetOf (now (s .entry))) i .locationFactor ⌝ }
+{
+    x * field(s, i, rows::LOCATION_FACTOR)
+}
+
+// Step 4.
+pub(crate) fn read_weight(s: &[u8], i: usize, t: Totals) -> u64
+    requires { ⌜ RowReady (now s) i × Ready (now s) t ⌝ }
+    ensures { λ r. ⌜ r ≡ readWeight (sheetOf (now (s .entry))) (unitOf (sheetOf (now (s .entry))) i) ⌝ }
+{
+    let model = head(s, header::MODEL);
+    if t.readings == 0 {
+        if model == 4 {
+            return by_factor(s, i, field(s, i, rows::RISER_SURFACE));
+        }
+        return by_factor(s, i, field(s, i, rows::HEATED_AREA));
+    }
+    if model == 3 {
+        return area_weight(s, i, t);
+    }
+    if model == 4 {
+        return surface_weight(s, i, t);
+    }
+    field(s, i, rows::READING)
+}
+
+// Step 6, units' water.
+pub(crate) fn water_weight(s: &[u8], i: usize, t: Totals) -> u64
+    requires { ⌜ RowReady (now s) i × Ready (now s) t ⌝ }
+    ensures { λ r. ⌜ r ≡ waterWeight (sheetOf (now (s .entry))) (unitOf (sheetOf (now (s .entry))) i) ⌝ }
+{
+    let class = field(s, i, rows::WATER_CLASS);
+    if class == 1 {
+        let litres = field(s, i, rows::LITRES);
+        if t.class2 == 0 {
+            return litres;
+        }
+        return t.class1 * litres * t.heads;
+    }
+    if class == 2 {
+        let persons = field(s, i, rows::PERSONS);
+        if t.class1 == 0 {
+            return persons;
+        }
+        return t.class2 * persons * t.litres;
+    }
+    0
+}
+
+// Step 6, common water: a unit of class 0 has no persons.
+pub(crate) fn common_water_weight(s: &[u8], i: usize) -> u64
+    requires { ⌜ RowReady (now s) i ⌝ }
+    ensures { λ r. ⌜ (r ≡ commonWaterWeight (unitOf (sheetOf (now (s .entry))) i)) × (r ≤ 50) ⌝ }
+{
+    field(s, i, rows::PERSONS)
+}

@@ -1,0 +1,25 @@
+/* Heat cost settlement under NN 140/25. Link with the archive that `rt staticlib heatcost` writes.
+ *
+ * A list is a pointer and a count of its elements. Lists must not overlap. Nothing is allocated, and nothing is kept
+ * between calls. An answer is 0 when the call is accepted, else number + 256 * place: the number of the refusal, and
+ * the row from 0 for 6 and 7, else 0. A refused call leaves every lent list as it was.
+ */
+#ifndef HEATCOST_H
+#define HEATCOST_H
+
+#include <stddef.h>
+#include <stdint.h>
+
+#ifdef __cplusplus
+extern "C" {
+#endif
+
+/* Settles a sheet. Writes the statement, 8 numbers a unit: four Wh, four cents. Refusals 1 to 12, then 13 unless
+ * statement_len is 8n. */
+uint32_t heatcost_settle(const uint8_t *sheet, size_t sheet_len, uint32_t *statement, size_t statement_len);
+
+#ifdef __cplusplus
+}
+#endif
+
+#endif
