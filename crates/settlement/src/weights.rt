@@ -88,8 +88,9 @@ fn area_weight(s: &[u8], i: usize, t: Totals) -> u64
 {
     let v = head(s, header::BASE_PERCENT);
     let p = field(s, i, rows::HEATED_AREA);
+    let k = field(s, i, rows::LOCATION_FACTOR);
     let r = mixed(v, field(s, i, rows::READING), t.readarea, p, t.readings);
-    limit(p * t.readings, r) * field(s, i, rows::LOCATION_FACTOR)
+    limit(p * t.readings, r) * k
 }
 
 // Step 4, model 4.
