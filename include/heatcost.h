@@ -18,6 +18,16 @@ extern "C" {
  * statement_len is 8n. */
 uint32_t heatcost_settle(const uint8_t *sheet, size_t sheet_len, uint32_t *statement, size_t statement_len);
 
+/* Writes the archive record of a sheet. Refusals 1 to 12, then 13 unless record_len is 56 + 64n. */
+uint32_t heatcost_write_record(const uint8_t *sheet, size_t sheet_len, uint8_t *record, size_t record_len);
+
+/* Checks a record: 14 for its head, the sheet's refusals, 14 for its statement. Accepted, the sheet is the record's
+ * bytes from 8 on, heatcost_record_sheet_len of them. */
+uint32_t heatcost_read_record(const uint8_t *record, size_t record_len);
+
+/* How many bytes the sheet of a record has, 48 + 32n; 0 for a record that is refused. */
+uint64_t heatcost_record_sheet_len(const uint8_t *record, size_t record_len);
+
 #ifdef __cplusplus
 }
 #endif

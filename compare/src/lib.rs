@@ -16,6 +16,10 @@
 //!   number and place.
 //! - `cargo run --release --bin month_vectors FOLDER`: whole months, vectors as
 //!   before; the lines are those of "Printing".
+//! - `cargo run --release --bin record_vectors FOLDER`: archive records,
+//!   vectors as before; a line is number and place or `0 0`, the length of the
+//!   sheet's part, and 1 where that sheet's record is the vector, else 0. The
+//!   first vector is case A's record.
 //!
 //! All numbers in `stdin` are little-endian. `cargo test --release` runs the
 //! document's cases and the random checks.

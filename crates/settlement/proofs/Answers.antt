@@ -24,7 +24,7 @@ abbrev pub orElse : Outcome → Outcome → Outcome
 orElse Accepted o = o
 orElse (Refused r) o = Refused r
 
-first-of-both : (xs ys : List Rule) → firstRefusal (xs ++ ys) ≡ orElse (firstRefusal xs) (firstRefusal ys)
+pub first-of-both : (xs ys : List Rule) → firstRefusal (xs ++ ys) ≡ orElse (firstRefusal xs) (firstRefusal ys)
 unfolding firstRefusal
 first-of-both [] ys = refl
 first-of-both ((true ⇒ r) ∷ xs) ys = refl

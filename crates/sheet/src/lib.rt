@@ -1,5 +1,5 @@
 // The sheet of one building month: layout, ranges, refusals 1 to 7 (document 01, "The sheet").
-mod bytes;
+pub mod bytes;
 mod check;
 pub mod header;
 mod ranges;

@@ -1,0 +1,244 @@
+//! Vectors for document 01's "Archive record".
+
+use compare::cases::*;
+use compare::damage::damage;
+use compare::record::{read_record, write_record};
+use compare::rng::Rng;
+use compare::samples::{good_sheet, random_ids, random_sheet, random_sheet_of};
+use compare::settle::settle_bytes;
+use compare::sheet::{build_sheet, Sheet};
+use compare::vectors::{pack, write_files};
+
+/// Bytes of the head, and of the head with the sheet's header.
+const HEAD: usize = 8;
+const HEAD_AND_HEADER: usize = 56;
+
+/// The list of records under construction.
+struct Records(Vec<Vec<u8>>);
+
+/// The record of a sheet, or nothing where the sheet is refused.
+fn record_of(sheet: &[u8]) -> Option<Vec<u8>> {
+    let unit_count = settle_bytes(sheet).ok()?.unit_count;
+    let mut record = vec![0; HEAD_AND_HEADER + 64 * unit_count];
+    write_record(sheet, &mut record).expect("the list has the record's length");
+    Some(record)
+}
+
+fn record(sheet: &Sheet) -> Vec<u8> {
+    record_of(&build_sheet(sheet)).expect("the sheet settles")
+}
+
+/// The sheet as a record with a statement of zeros, also where it is refused.
+fn unsettled(sheet: &Sheet) -> Vec<u8> {
+    let mut record = b"HCA\0\x01\0\0\0".to_vec();
+    record.extend(build_sheet(sheet));
+    record.resize(HEAD_AND_HEADER + 64 * sheet.units.len(), 0);
+    record
+}
+
+/// Where the statement begins.
+fn statement(record: &[u8]) -> usize {
+    HEAD_AND_HEADER + (record.len() - HEAD_AND_HEADER) / 2
+}
+
+impl Records {
+    fn add(&mut self, record: Vec<u8>) {
+        self.0.push(record);
+    }
+
+    /// Adds the record with the byte at `place` changed.
+    fn add_changed(&mut self, record: &[u8], place: usize, change: u8) {
+        let mut record = record.to_vec();
+        record[place] ^= change;
+        self.add(record);
+    }
+
+    /// The record; then damaged in the statement's first, middle and last
+    /// byte, cut and lengthened by one byte.
+    fn add_with_damage(&mut self, record: &[u8]) {
+        self.add(record.to_vec());
+        let first = statement(record);
+        let last = record.len() - 1;
+        for place in [first, (first + last) / 2, last] {
+            self.add_changed(record, place, 1);
+        }
+        self.add(record[..last].to_vec());
+        self.add([record, &[0]].concat());
+    }
+
+    fn add_cases(&mut self) {
+        self.add_with_damage(&record(&case_a()));
+        for sheet in [
+            case_a_with_readings([0, 400, 600]),
+            case_a_with_readings([1_000, 0, 0]),
+            case_d(),
+            two_units(30),
+            water_by_volume(51, 1),
+            water_by_summer([1_000; 6]),
+            case_a_with_meter(50),
+            case_a_with_meter(0),
+        ] {
+            self.add(record(&sheet));
+        }
+        self.add(unsettled(&two_units(31)));
+    }
+
+    /// Every byte of case A's record, and each bit of its head.
+    fn add_bytes(&mut self) {
+        let good = record(&case_a());
+        for place in 0..good.len() {
+            self.add_changed(&good, place, 0x10);
+        }
+        for place in 0..HEAD {
+            for bit in 0..8 {
+                self.add_changed(&good, place, 1 << bit);
+            }
+        }
+    }
+
+    /// Lengths around each end: head, header, sheet, units of the statement.
+    fn add_lengths(&mut self) {
+        let good = record(&case_a());
+        for length in [0, 1, 7, 8, 9, 55, 56, 57, 151, 152, 153, 183, 184, 216, 247] {
+            self.add(good[..length].to_vec());
+        }
+        let mut wrong = good[..7].to_vec();
+        wrong[0] = 0;
+        self.add(wrong);
+        for more in [1, 32, 64] {
+            self.add([&good[..], &vec![0; more]].concat());
+        }
+        // The head alone, twice; the sheet without its head.
+        self.add([&good[..HEAD], &good[..HEAD]].concat());
+        self.add(good[HEAD..].to_vec());
+    }
+
+    /// The archive version and the two zeros behind it.
+    fn add_versions(&mut self) {
+        let good = record(&good_sheet(4, 1));
+        for version in [0u16, 2, 3, 256, 257, 65_535] {
+            let mut record = good.clone();
+            record[4..6].copy_from_slice(&version.to_le_bytes());
+            self.add(record);
+        }
+        for place in [6, 7] {
+            self.add_changed(&good, place, 1);
+            self.add_changed(&good, place, 0x80);
+        }
+    }
+
+    /// Every model and source.
+    fn add_models(&mut self) {
+        for model in 1..=5 {
+            for source in 0..4 {
+                let mut sheet = good_sheet(model, source);
+                sheet.header.hot_water_inputs[0] = [0, 77_777, 9, 600][usize::from(source)];
+                self.add_with_damage(&record(&sheet));
+            }
+        }
+    }
+
+    /// Sheets that 8 to 12 refuse, whatever the statement.
+    fn add_refused(&mut self) {
+        let mut water = good_sheet(2, 1);
+        water.header.hot_water_inputs[0] = water.header.shared_meter_wh + 1;
+        self.add(unsettled(&water));
+        let mut divisor = good_sheet(1, 0);
+        for unit in &mut divisor.units {
+            unit.heat_load_w = 0;
+        }
+        self.add(unsettled(&divisor));
+        let mut unread = good_sheet(3, 0);
+        for unit in &mut unread.units {
+            unit.status = 2;
+            unit.reading = 0;
+        }
+        self.add(unsettled(&unread));
+        let mut meters = good_sheet(5, 0);
+        meters.units[0].reading = 25_000_000;
+        self.add(unsettled(&meters));
+        // A good sheet with another month's statement, and with zeros.
+        let mut mixed = record(&case_a());
+        let other = record(&case_a_with_readings([0, 400, 600]));
+        let start = statement(&mixed);
+        mixed[start..].copy_from_slice(&other[start..]);
+        self.add(mixed);
+        self.add(unsettled(&case_a()));
+    }
+
+    /// Records of 159 and 160 units, and one of them damaged.
+    fn add_large(&mut self, rng: &mut Rng) {
+        let ids = random_ids(rng, 160);
+        let mut found = 0;
+        for model in [3, 1, 4, 5, 2] {
+            let count = if model == 1 { 159 } else { 160 };
+            let bytes = build_sheet(&random_sheet_of(rng, 12, model, 1, &ids[..count]));
+            let Some(record) = record_of(&bytes) else {
+                continue;
+            };
+            self.add(record.clone());
+            if found == 0 {
+                let last = record.len() - 1;
+                for place in [statement(&record), last] {
+                    self.add_changed(&record, place, 0x80);
+                }
+                self.add(record[..last].to_vec());
+                self.add([&record[..], &[0]].concat());
+            }
+            found += 1;
+            if found == 2 {
+                return;
+            }
+        }
+    }
+
+    /// Random records, good and with one to three damages in the sheet or
+    /// behind it.
+    fn add_random(&mut self, rng: &mut Rng) {
+        let mut count = 0;
+        while count < 60 {
+            let sheet = build_sheet(&random_sheet(rng));
+            let Some(record) = record_of(&sheet) else {
+                continue;
+            };
+            if record.len() > 700 {
+                continue;
+            }
+            let mut body = record[HEAD..].to_vec();
+            for _ in 0..rng.between(1, 3) {
+                damage(rng, &mut body);
+            }
+            self.add([&record[..HEAD], &body].concat());
+            self.add(record);
+            count += 1;
+        }
+    }
+}
+
+fn main() {
+    let mut rng = Rng::new(103);
+    let mut records = Records(Vec::new());
+    records.add_cases();
+    records.add_bytes();
+    records.add_lengths();
+    records.add_versions();
+    records.add_models();
+    records.add_refused();
+    records.add_large(&mut rng);
+    records.add_random(&mut rng);
+
+    let mut stdout = String::new();
+    for record in &records.0 {
+        let answer = read_record(record);
+        let part = &record[answer.part_start..][..answer.part_length];
+        let same = record_of(part).as_ref() == Some(record);
+        stdout += &format!(
+            "{} {} {} {}\n",
+            answer.number,
+            answer.place,
+            answer.part_length,
+            u8::from(same)
+        );
+    }
+    write_files(&pack(&records.0), &stdout);
+}

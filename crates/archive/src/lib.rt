@@ -1,0 +1,8 @@
+// The archive record of a settled sheet (document 01, "Archive record").
+mod head;
+mod reader;
+mod writer;
+
+pub use reader::check;
+pub use reader::read;
+pub use writer::write;

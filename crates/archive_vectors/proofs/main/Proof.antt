@@ -1,0 +1,50 @@
+-- The loop ends with its counter.
+use Prim.Native.Nat.{_-_, _≤_}
+use borrow.Author.Needs.{needs}
+use Rattle.archive_vectors.proofs.main.Statement.{statement}
+use Rattle.archive_vectors.proofs.main.Tie as tie
+
+abbrev Inv-loop : tie.InvT-loop
+Inv-loop counter₀ counter = counter ≤ 125000
+
+abbrev μ-loop : tie.MeasureT-loop
+μ-loop counter₀ counter = 125000 - counter
+
+loop-holds : tie.Need-loop-holds Inv-loop μ-loop
+loop-holds c = search needs
+
+next-length-requires : tie.Need-next-length-requires Inv-loop μ-loop
+next-length-requires c κs = search needs
+
+returns : tie.Need-returns Inv-loop μ-loop
+returns c = search needs
+
+answer-next-requires : tie.Need-answer-next-requires Inv-loop μ-loop
+answer-next-requires c κs = search needs
+
+add-counter : tie.Need-add-counter Inv-loop μ-loop
+add-counter c = search needs
+
+loop-less : tie.Need-loop-less Inv-loop μ-loop
+loop-less c = search needs
+
+loop-again : tie.Need-loop-again Inv-loop μ-loop
+loop-again c = search needs
+
+returns-2 : tie.Need-returns-2 Inv-loop μ-loop
+returns-2 c = search needs
+
+pub main-spec : {M : Type 1} → statement M
+main-spec =
+    tie.close
+    (tie.spec
+    Inv-loop
+    μ-loop
+    loop-holds
+    next-length-requires
+    returns
+    answer-next-requires
+    add-counter
+    loop-less
+    loop-again
+    returns-2)
