@@ -28,6 +28,25 @@ uint32_t heatcost_read_record(const uint8_t *record, size_t record_len);
 /* How many bytes the sheet of a record has, 48 + 32n; 0 for a record that is refused. */
 uint64_t heatcost_record_sheet_len(const uint8_t *record, size_t record_len);
 
+/* The year book is a list of 15,557 numbers that the caller keeps: HEATCOST_BOOK_LEN. Each call gets it as the last
+ * one left it, and nobody else writes it meanwhile. 15 refuses another length; except at opening, also a book whose
+ * first number is over 160 or that has a month mark over 1. */
+#define HEATCOST_BOOK_LEN 15557
+
+/* Opens a book, whatever it held, with the n and ids of a sheet. Refusals 15, 1 to 7. */
+uint32_t heatcost_open(uint32_t *book, size_t book_len, const uint8_t *sheet, size_t sheet_len);
+
+/* Posts a sheet's month, which must not stand yet; replaces one that stands. Refusals 15, 1 to 12, 16, 17. */
+uint32_t heatcost_post(uint32_t *book, size_t book_len, const uint8_t *sheet, size_t sheet_len);
+uint32_t heatcost_replace(uint32_t *book, size_t book_len, const uint8_t *sheet, size_t sheet_len);
+
+/* Withdraws a month, 1 to 12, that stands. Refusals 15, 17. */
+uint32_t heatcost_withdraw(uint32_t *book, size_t book_len, uint32_t month);
+
+/* Writes 9 numbers for the unit at a place from 0: how many months stand, then its four sums of Wh and four of cents
+ * over them. Refusals 15, 18, then 13 unless totals_len is 9. */
+uint32_t heatcost_year(const uint32_t *book, size_t book_len, uint32_t place, uint64_t *totals, size_t totals_len);
+
 #ifdef __cplusplus
 }
 #endif

@@ -20,6 +20,11 @@
 //!   vectors as before; a line is number and place or `0 0`, the length of the
 //!   sheet's part, and 1 where that sheet's record is the vector, else 0. The
 //!   first vector is case A's record.
+//! - `cargo run --release --bin book_vectors FOLDER`: "Year book". A vector is
+//!   a call on one list: its kind (8 bits: open, post, replace, withdraw, year)
+//!   and a sheet as before, or a month or place (32 bits); kind 5 writes a
+//!   number (16 bits) at a place of the list (16 bits). Its line is number and
+//!   place, for a year call k and the sums, and the list as one number.
 //!
 //! All numbers in `stdin` are little-endian. `cargo test --release` runs the
 //! document's cases and the random checks.

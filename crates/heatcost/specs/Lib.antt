@@ -1,2 +1,3 @@
 -- What the calls for other languages answer.
 pub mod Answer
+pub mod Year

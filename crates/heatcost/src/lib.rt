@@ -1,11 +1,16 @@
 // The calls for other languages. An answer is 0 when accepted, else number + 256 × place.
 ghost use mathlib.Core.Path.{_≡_};
+ghost use mathlib.Core.List.{_∷_};
+ghost use lib.ListN.{length};
 ghost use Rattle.sheet.specs.Refusals.{PlaceBelow};
 ghost use Rattle.settlement.specs.Settle.{settleAnswer, statementAfter};
 ghost use Rattle.archive.specs.Writer.{writeAnswer, recordAfter};
 ghost use Rattle.archive.specs.Reader.{readOutcome, countOf};
+ghost use Rattle.yearbook.specs.LentBook.{openAnswer, bookOpened, postAnswer, bookPosted, replaceAnswer, bookReplaced, withdrawAnswer, bookWithdrawn};
 ghost use Rattle.heatcost.specs.Answer.{answerNumber};
+ghost use Rattle.heatcost.specs.Year.{yearListAnswer, yearListAfter};
 use sheet::Outcome;
+use sheet::Refusal;
 
 fn answer(outcome: Outcome) -> u32
     requires { ⌜ PlaceBelow 160 outcome ⌝ }
@@ -48,4 +53,61 @@ pub extern "C" fn heatcost_record_sheet_len(bytes: &[u8]) -> u64
 {
     let part = archive::read(bytes);
     part.len() as u64
+}
+
+// Opens a year book, a list of 15,557 numbers, with a sheet.
+#[no_mangle]
+pub extern "C" fn heatcost_open(book: &mut [u32], sheet: &[u8]) -> u32
+    ensures { λ r. ⌜ (r ≡ answerNumber (openAnswer (now (book .entry)) (now (sheet .entry)))) × (now (book .exit) ≡ bookOpened (now (book .entry)) (now (sheet .entry))) ⌝ }
+{
+    answer(yearbook::open(book, sheet))
+}
+
+#[no_mangle]
+pub extern "C" fn heatcost_post(book: &mut [u32], sheet: &[u8]) -> u32
+    ensures { λ r. ⌜ (r ≡ answerNumber (postAnswer (now (book .entry)) (now (sheet .entry)))) × (now (book .exit) ≡ bookPosted (now (book .entry)) (now (sheet .entry))) ⌝ }
+{
+    answer(yearbook::post(book, sheet))
+}
+
+#[no_mangle]
+pub extern "C" fn heatcost_replace(book: &mut [u32], sheet: &[u8]) -> u32
+    ensures { λ r. ⌜ (r ≡ answerNumber (replaceAnswer (now (book .entry)) (now (sheet .entry)))) × (now (book .exit) ≡ bookReplaced (now (book .entry)) (now (sheet .entry))) ⌝ }
+{
+    answer(yearbook::replace(book, sheet))
+}
+
+#[no_mangle]
+pub extern "C" fn heatcost_withdraw(book: &mut [u32], month: u32) -> u32
+    ensures { λ r. ⌜ (r ≡ answerNumber (withdrawAnswer (now (book .entry)) month)) × (now (book .exit) ≡ bookWithdrawn (now (book .entry)) month) ⌝ }
+{
+    answer(yearbook::withdraw(book, month))
+}
+
+fn put_totals(k: u32, sums: &[u64], totals: &mut [u64])
+    requires { ⌜ (length (now sums) ≡ 8) × (length (now totals) ≡ 9) ⌝ }
+    ensures { λ r. ⌜ now (totals .exit) ≡ k ∷ now (sums .entry) ⌝ }
+{
+    totals[0] = k as u64;
+    for j in 0..8usize {
+        totals[1 + j] = sums[j];
+    }
+}
+
+// k and a unit's eight sums into a list of 9 numbers.
+#[no_mangle]
+pub extern "C" fn heatcost_year(book: &[u32], place: u32, totals: &mut [u64]) -> u32
+    ensures { λ r. ⌜ (r ≡ answerNumber (yearListAnswer (now (book .entry)) place (now (totals .entry)))) × (now (totals .exit) ≡ yearListAfter (now (book .entry)) place (now (totals .entry))) ⌝ }
+{
+    let t = yearbook::year(book, place);
+    let outcome = t.outcome;
+    let sums = t.sums;
+    let Outcome::Accepted = outcome else {
+        return answer(outcome);
+    };
+    if totals.len() != 9 {
+        return answer(Outcome::Refused(Refusal::BufferLength));
+    }
+    put_totals(t.k, &sums, totals);
+    0
 }

@@ -1,0 +1,315 @@
+//! Vectors for document 01's "Year book": calls on one list, one after the other.
+
+use compare::book::{self, YearSums, BOOK_LEN};
+use compare::calls::{random_call, sheet_of_building, Call};
+use compare::cases::{case_a, case_a_with_meter, two_units, water_by_volume};
+use compare::damage::put;
+use compare::refusal::Refusal;
+use compare::rng::Rng;
+use compare::samples::{good_sheet, random_sheet_of};
+use compare::sheet::{build_sheet, Header, Sheet, Unit};
+use compare::vectors::{pack, write_files};
+
+/// The calls under construction: the list as they leave it, and both files.
+struct Run {
+    list: Vec<u32>,
+    stdin: Vec<u8>,
+    stdout: String,
+}
+
+impl Run {
+    fn begin(&mut self, kind: u8, arguments: &[u8]) {
+        self.stdin.push(kind);
+        self.stdin.extend(arguments);
+    }
+
+    /// Ends a line with the list as one number.
+    fn end(&mut self, answer: &str) {
+        let digest = self.list.iter().fold(0u64, |sum, number| {
+            (31 * sum + u64::from(*number)) % 1_000_000_007
+        });
+        self.stdout += &format!("{answer} {digest}\n");
+    }
+
+    fn open(&mut self, sheet: &[u8]) {
+        self.begin(0, &pack(&[sheet.to_vec()]));
+        let answer = book::open(&mut self.list, sheet);
+        self.end(&answer_words(&answer));
+    }
+
+    fn post(&mut self, sheet: &[u8]) {
+        self.begin(1, &pack(&[sheet.to_vec()]));
+        let answer = book::post(&mut self.list, sheet);
+        self.end(&answer_words(&answer));
+    }
+
+    fn replace(&mut self, sheet: &[u8]) {
+        self.begin(2, &pack(&[sheet.to_vec()]));
+        let answer = book::replace(&mut self.list, sheet);
+        self.end(&answer_words(&answer));
+    }
+
+    fn withdraw(&mut self, month: u32) {
+        self.begin(3, &month.to_le_bytes());
+        let answer = book::withdraw(&mut self.list, month);
+        self.end(&answer_words(&answer));
+    }
+
+    fn year(&mut self, place: u32) {
+        self.begin(4, &place.to_le_bytes());
+        let answer = book::year(&self.list, place);
+        let YearSums { months, sums } = answer.unwrap_or_default();
+        let sums: String = sums.iter().map(|sum| format!(" {sum}")).collect();
+        let words = answer_words(&answer);
+        self.end(&format!("{words} {months}{sums}"));
+    }
+
+    /// Writes a number of the list from outside.
+    fn set(&mut self, place: u16, number: u16) {
+        self.begin(5, &place.to_le_bytes());
+        self.stdin.extend(number.to_le_bytes());
+        self.list[usize::from(place)] = u32::from(number);
+        self.end("set");
+    }
+
+    fn call(&mut self, call: &Call) {
+        match call {
+            Call::Post(sheet) => self.post(sheet),
+            Call::Replace(sheet) => self.replace(sheet),
+            Call::Withdraw(month) => self.withdraw(*month),
+            Call::Year(place) => self.year(*place),
+        }
+    }
+
+    /// The year calls of three units, and one place too far.
+    fn years(&mut self) {
+        for place in 0..4 {
+            self.year(place);
+        }
+    }
+
+    /// Before the opening n is 0: no unit, and every sheet is of another
+    /// building.
+    fn unopened(&mut self) {
+        self.year(0);
+        self.post(&build_sheet(&case_a()));
+        self.withdraw(1);
+    }
+
+    /// The run that the definitions compute (crate yearbook, specs/Runs.antt).
+    fn computed(&mut self) {
+        self.open(&overcharged(6));
+        self.year(0);
+        self.replace(&by_area(1, 1_000, [11, 12]));
+        self.post(&by_area(1, 1_000, [11, 12]));
+        self.post(&by_area(1, 2_000, [11, 12]));
+        self.year(0);
+        self.post(&by_area(12, 50, [11, 12]));
+        self.replace(&by_area(1, 2_000, [11, 12]));
+        self.year(1);
+        self.post(&[]);
+        self.post(&by_area(13, 1_000, [11, 12]));
+        self.post(&overcharged(2));
+        self.post(&small_sheet(2, [2, 0, 0], 1_000, &[(11, 0, 100, 0)]));
+        self.replace(&by_area(1, 1_000, [11, 13]));
+        self.post(&by_area(1, 1_000, [11, 13]));
+        self.post(&by_area(1, 1_000, [12, 11]));
+        for month in [1, 1, 0, 13] {
+            self.withdraw(month);
+        }
+        self.year(0);
+        self.post(&by_area(1, 1_000, [11, 12]));
+        self.year(2);
+        self.year(1);
+    }
+
+    /// Post, replace and withdraw, each accepted and refused by 17.
+    fn months(&mut self) {
+        let january = in_month(case_a(), 1);
+        let december = in_month(case_a_with_meter(4_321_000), 12);
+        self.open(&january);
+        self.years();
+        self.replace(&january);
+        self.post(&january);
+        self.post(&january);
+        self.year(0);
+        self.replace(&in_month(case_a_with_meter(7_654_321), 1));
+        self.post(&december);
+        self.years();
+        for month in [0, 2, 13, u32::MAX, 1, 1] {
+            self.withdraw(month);
+        }
+        self.years();
+        self.post(&january);
+        self.withdraw(12);
+        self.replace(&december);
+        self.years();
+        self.year(u32::MAX);
+    }
+
+    /// 1 to 8, 10 and 12, the last also over a month that stands.
+    fn bad_sheets(&mut self) {
+        let good = in_month(case_a(), 1);
+        self.post(&[]);
+        for (field, value) in [
+            ((0, 1), 0),
+            ((4, 2), 2),
+            ((6, 1), 13),
+            ((8, 2), 2),
+            ((48 + 32 + 8, 4), 0),
+            ((48 + 32, 4), 0),
+        ] {
+            let mut bad = good.clone();
+            put(&mut bad, field, value);
+            self.post(&bad);
+            self.replace(&bad);
+        }
+        let mut water = water_by_volume(100, 20_000_000);
+        water.header.shared_meter_wh = 1;
+        self.post(&build_sheet(&water));
+        let mut unread = good_sheet(3, 0);
+        for unit in &mut unread.units {
+            unit.status = 1;
+            unit.reading = 0;
+        }
+        self.post(&build_sheet(&unread));
+        self.post(&build_sheet(&two_units(31)));
+        let mut short = good.clone();
+        short.pop();
+        self.open(&short);
+        self.years();
+    }
+
+    /// 16: fewer units, another id, and before 17.
+    fn other_buildings(&mut self) {
+        let mut fewer = case_a();
+        fewer.units.pop();
+        fewer.header.unit_count = 2;
+        let mut renamed = case_a();
+        renamed.units[2].id += 1;
+        for month in [1, 2] {
+            for sheet in [&fewer, &renamed] {
+                self.post(&in_month(sheet.clone(), month));
+                self.replace(&in_month(sheet.clone(), month));
+            }
+        }
+    }
+
+    /// 15: n over 160, a mark over 1; other numbers are nobody's fault.
+    fn bad_books(&mut self) {
+        let sheet = in_month(case_a(), 3);
+        for (place, bad, good) in [(0, 161, 3), (1, 2, 1), (12, 2, 0)] {
+            self.set(place, bad);
+            self.post(&sheet);
+            self.replace(&[]);
+            self.withdraw(0);
+            self.year(3);
+            self.set(place, good);
+        }
+        self.set(13, 65_535);
+        self.set(197 + 1_280, 99);
+        self.set(196, 7);
+        self.year(0);
+        self.post(&in_month(case_a(), 2));
+        self.year(0);
+        self.set(0, 160);
+        self.year(159);
+        self.open(&sheet);
+        self.year(0);
+    }
+
+    /// Two months of 160 units, with the smallest building after them.
+    fn large(&mut self, rng: &mut Rng) {
+        let ids: Vec<u32> = (1..=160).map(|place| 3 * place).collect();
+        for month in [4, 11] {
+            let sheet = build_sheet(&random_sheet_of(rng, month, 2, 0, &ids));
+            if month == 4 {
+                self.open(&sheet);
+            }
+            self.post(&sheet);
+        }
+        for place in [0, 80, 159, 160] {
+            self.year(place);
+        }
+        self.withdraw(4);
+        self.year(159);
+    }
+
+    fn random(&mut self, rng: &mut Rng) {
+        let ids = [5, 6];
+        self.open(&sheet_of_building(rng, &ids));
+        for _ in 0..40 {
+            let call = random_call(rng, &ids);
+            self.call(&call);
+        }
+        self.year(0);
+        self.year(1);
+    }
+}
+
+/// A sheet without hot water at a price of 10,000: model, base percent and
+/// unmetered factor, and rows of id, status, area and reading.
+fn small_sheet(month: u8, model: [u8; 3], meter: u32, rows: &[(u32, u8, u32, u32)]) -> Vec<u8> {
+    let header = Header {
+        month,
+        model: model[0],
+        unit_count: rows.len() as u16,
+        base_percent: model[1],
+        unmetered_factor: model[2],
+        shared_meter_wh: meter,
+        price: 10_000,
+        ..Header::default()
+    };
+    let unit = |&(id, status, heated_area, reading): &(u32, u8, u32, u32)| Unit {
+        id,
+        status,
+        location_factor: 1_000,
+        heated_area,
+        reading,
+        ..Unit::default()
+    };
+    let units = rows.iter().map(unit).collect();
+    build_sheet(&Sheet { header, units })
+}
+
+/// A quarter and three quarters by area.
+fn by_area(month: u8, meter: u32, ids: [u32; 2]) -> Vec<u8> {
+    let rows = [(ids[0], 0, 100, 0), (ids[1], 0, 300, 0)];
+    small_sheet(month, [2, 0, 0], meter, &rows)
+}
+
+/// Case F.
+fn overcharged(month: u8) -> Vec<u8> {
+    let rows = [(11, 1, 500, 0), (12, 0, 1_000, 300)];
+    small_sheet(month, [3, 30, 31], 1_000, &rows)
+}
+
+fn in_month(mut sheet: Sheet, month: u8) -> Vec<u8> {
+    sheet.header.month = month;
+    build_sheet(&sheet)
+}
+
+fn answer_words<T>(answer: &Result<T, Refusal>) -> String {
+    match answer {
+        Ok(_) => "0 0".to_string(),
+        Err(refusal) => format!("{} {}", refusal.number, refusal.place),
+    }
+}
+
+fn main() {
+    let mut rng = Rng::new(104);
+    let mut run = Run {
+        list: vec![0; BOOK_LEN],
+        stdin: Vec::new(),
+        stdout: String::new(),
+    };
+    run.unopened();
+    run.computed();
+    run.months();
+    run.bad_sheets();
+    run.other_buildings();
+    run.bad_books();
+    run.large(&mut rng);
+    run.random(&mut rng);
+    write_files(&run.stdin, &run.stdout);
+}

@@ -1,0 +1,32 @@
+-- `heatcost_replace` meets its contract.
+use mathlib.Core.Path.{ap, subst, sym, _∙_}
+use Rattle.sheet.specs.Refusals.{PlaceBelow}
+use Rattle.yearbook.specs.LentBook.{replaceAnswer, lentReply, lentAfter}
+use Rattle.yearbook.proofs.Places.{replace-place, same-outcome}
+use Rattle.heatcost.specs.Answer.{answerNumber}
+use borrow.Author.Needs.{needs}
+use Rattle.heatcost.proofs.heatcost_replace.Statement.{statement}
+use Rattle.heatcost.proofs.heatcost_replace.Tie as tie
+
+replace-requires : tie.Need-replace-requires
+replace-requires c κs = search needs
+
+answer-requires : tie.Need-answer-requires
+unfolding lentReply
+answer-requires c κs =
+    let a = c .before .before .before .before .before .before .args in
+    let r = c .before .before .replace in
+    subst (PlaceBelow 160) (sym (same-outcome (r .result) (replaceAnswer (a .book .now) (a .sheet .now)) (r .ensures .reply))) (replace-place (a .book .now) (a .sheet .now))
+
+same-length : tie.Need-same-length
+same-length c = search needs
+
+returns : tie.Need-returns
+unfolding lentReply lentAfter
+returns c =
+    let a = c .before .before .before .before .before .before .before .args in
+    let r = c .before .before .before .replace in
+    (c .answer .ensures ∙ ap answerNumber (same-outcome (r .result) (replaceAnswer (a .book .now) (a .sheet .now)) (r .ensures .reply)), r .ensures .after)
+
+pub heatcost-replace-spec : {M : Type 1} → statement M
+heatcost-replace-spec = tie.close (tie.spec replace-requires answer-requires same-length returns)

@@ -1,0 +1,42 @@
+-- What the calls know of a sheet that settles, and of one that doesn't. Assumes nothing.
+use mathlib.Core.Path.{_≡_, refl, ap, _∙_}
+use mathlib.Core.List.{List}
+use Prim.Native.Nat.{ℕ, _*_}
+use native.Mathlib.Omega.{arith}
+use lib.ListN.{length}
+use Rattle.sheet.specs.declared.refusal.Refusal.{Refusal}
+use Rattle.sheet.specs.declared.refusal.Outcome.{Outcome}
+use Rattle.sheet.specs.declared.refusal.Outcome.the-variants.{Accepted, Refused}
+use Rattle.sheet.specs.Refusals.{firstRefusal}
+use Rattle.sheet.specs.Layout.{sheetOf}
+use Rattle.month.specs.Month.{Month, Settled, monthOf, statementOf, settleRules, settledSheet, unlessRefused}
+use Rattle.month.specs.Accepted.{AcceptedSheet}
+use Rattle.month.proofs.Accepted.{accepted}
+use Rattle.month.proofs.Laws.{settled-month, settled-laws}
+use Rattle.yearbook.specs.LentBook.{padded}
+use Rattle.yearbook.proofs.Writes.{padded-length}
+
+module _ (sheet : List ℕ) where
+  pub sheet-refused : (r : Refusal) → settledSheet sheet ≡ Settled.refused r → firstRefusal (settleRules sheet) ≡ Refused r
+  unfolding settledSheet
+  sheet-refused r = go (firstRefusal (settleRules sheet)) refl
+    where
+      go : (o : Outcome) → firstRefusal (settleRules sheet) ≡ o → unlessRefused o (monthOf (sheetOf sheet)) ≡ Settled.refused r → firstRefusal (settleRules sheet) ≡ Refused r
+      go Accepted e h = absurd (let z : _≡_ {A = ℕ} 0 1 = cc in omega arith)
+      go (Refused q) e h = cc
+
+  module _ {m : Month} (settles : settledSheet sheet ≡ Settled.settled m) where
+    -- to the month of its own fields
+    pub own-month : settledSheet sheet ≡ Settled.settled (monthOf (sheetOf sheet))
+    own-month = settles ∙ ap Settled.settled (settled-month sheet m settles .1)
+
+    -- its month is 1 to 12, its units are at most 160, and so on
+    pub sheet-accepted : AcceptedSheet (sheetOf sheet)
+    sheet-accepted = accepted sheet (settled-month sheet m settles .0)
+
+    pub statement-length : length (statementOf (sheetOf sheet)) ≡ 8 * sheetOf sheet .unitCount
+    unfolding monthOf
+    statement-length = settled-laws sheet (monthOf (sheetOf sheet)) own-month .count
+
+    pub block-length : length (padded (sheetOf sheet .unitCount) (statementOf (sheetOf sheet))) ≡ 1280
+    block-length = padded-length (sheetOf sheet .unitCount) (statementOf (sheetOf sheet)) (sheet-accepted .checked-sheet .header .unitCount) statement-length

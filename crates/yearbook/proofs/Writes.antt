@@ -1,0 +1,131 @@
+-- What the writes of the year book leave, number by number. Assumes nothing.
+use mathlib.Core.Path.{_≡_, refl, sym, _∙_}
+use mathlib.Core.Logic.{_≢_, _⊎_, inl, inr}
+use mathlib.Core.List.{List, map}
+use Prim.Native.Nat.{ℕ, _+_, _*_, _-_, _≤_, _<_}
+use native.Mathlib.Omega.{arith}
+use native.Mathlib.Decide.{ℕ-discrete, decLt}
+use borrow.Author.Tests.{ne-eqb}
+use lib.ListN.{length, getD, set, length-set, length-replicate, length-append, length-map, List·getD-eq-default}
+use lib.Seq.{getD-set-same, getD-set-other, length-sets, ext-getD}
+use Rattle.sheet.specs.declared.refusal.Outcome.{Outcome}
+use Rattle.sheet.specs.declared.refusal.Outcome.the-variants.{Accepted, Refused}
+use Rattle.sheet.specs.Refusals.{firstRefusal}
+use Rattle.sheet.specs.Layout.{sheetOf}
+use Rattle.sheet.proofs.Units.{units-count}
+use Rattle.month.specs.Month.{Month, Settled, monthOf, settledSheet}
+use Rattle.month.proofs.Laws.{settled-month}
+use Rattle.yearbook.specs.Calls.{Call, post, replace, withdraw, year}
+use Rattle.yearbook.specs.LentBook.{unitCountIn, markAt, meterAt, billAt, blockAt, padded, putMonth, putSheet, clearMonth, zeroBook, freshBook}
+use Rattle.yearbook.specs.LentBook.{afterwards, openAnswer, bookOpened, postAnswer, bookPosted, replaceAnswer, bookReplaced, withdrawAnswer, bookWithdrawn, lentAfter}
+use Rattle.yearbook.proofs.Stores.{getD-sets-below, getD-sets-above, getD-sets-in, zero-at}
+
+-- ---- a month: its mark, M, bill and block
+pub put-length : (b : List ℕ) (i mark meter bill : ℕ) (block : List ℕ) → length (putMonth b i mark meter bill block) ≡ length b
+unfolding putMonth
+put-length b i mark meter bill block = simp (length-sets, length-set)
+
+pub padded-length : (n : ℕ) (numbers : List ℕ) → n ≤ 160 → length numbers ≡ 8 * n → length (padded n numbers) ≡ 1280
+padded-length n numbers h e = simp (length-append, length-replicate) (omega arith)
+
+module _ (b : List ℕ) (size : length b ≡ 15557) (i : ℕ) (low : i < 12) (mark meter bill : ℕ) (block : List ℕ) (full : length block ≡ 1280) where
+  pub put-mark : getD (putMonth b i mark meter bill block) (markAt i) 0 ≡ mark
+  unfolding putMonth
+  put-mark =
+      let h₁ : markAt i < blockAt i = omega arith in let h₂ : markAt i ≢ billAt i = omega arith in let h₃ : markAt i ≢ meterAt i = omega arith in
+      let h₄ : markAt i < length b = omega arith in
+      simp (getD-sets-below, getD-set-other, getD-set-same)
+
+  pub put-meter : getD (putMonth b i mark meter bill block) (meterAt i) 0 ≡ meter
+  unfolding putMonth
+  put-meter =
+      let h₁ : meterAt i < blockAt i = omega arith in let h₂ : meterAt i ≢ billAt i = omega arith in
+      let h₃ : meterAt i < length (set b (markAt i) mark) = rw length-set (omega arith) in
+      simp (getD-sets-below, getD-set-other, getD-set-same)
+
+  pub put-bill : getD (putMonth b i mark meter bill block) (billAt i) 0 ≡ bill
+  unfolding putMonth
+  put-bill =
+      let h₁ : billAt i < blockAt i = omega arith in
+      let h₂ : billAt i < length (set (set b (markAt i) mark) (meterAt i) meter) = simp length-set (omega arith) in
+      simp (getD-sets-below, getD-set-same)
+
+  pub put-block : (k : ℕ) → k < 1280 → getD (putMonth b i mark meter bill block) (blockAt i + k) 0 ≡ getD block k 0
+  unfolding putMonth
+  put-block k h = getD-sets-in block _ (blockAt i) k (omega arith) (simp length-set (omega arith))
+
+  -- everything else stays
+  pub put-other : (x : ℕ) → x ≢ markAt i → x ≢ meterAt i → x ≢ billAt i → (x < blockAt i) ⊎ (blockAt i + 1280 ≤ x) → getD (putMonth b i mark meter bill block) x 0 ≡ getD b x 0
+  unfolding putMonth
+  put-other x p q r (inl h) = simp (getD-sets-below, getD-set-other)
+  put-other x p q r (inr h) = let h′ : blockAt i + length block ≤ x = omega arith in simp (getD-sets-above, getD-set-other)
+
+-- ---- a fresh book
+pub zero-length : length zeroBook ≡ 15557
+unfolding zeroBook
+zero-length = length-replicate {A = ℕ} 15557 0
+
+pub zero-book-at : (x : ℕ) → getD zeroBook x 0 ≡ 0
+unfolding zeroBook
+zero-book-at x = zero-at 15557 x
+
+-- a list of 15,557 numbers that are all 0
+pub all-zero : (b : List ℕ) → length b ≡ 15557 → ((x : ℕ) → x < 15557 → getD b x 0 ≡ 0) → b ≡ zeroBook
+all-zero b size h = ext-getD 0 b zeroBook (size ∙ sym zero-length) (λ x l. h x (omega arith) ∙ sym (zero-book-at x))
+
+module _ (sheet : List ℕ) where
+  ids : List ℕ
+  ids = map (λ u. u .id) (sheetOf sheet .units)
+
+  pub ids-length : length (map (λ u. u .id) (sheetOf sheet .units)) ≡ sheetOf sheet .unitCount
+  ids-length = length-map (sheetOf sheet .units) (λ u. u .id) ∙ units-count sheet
+
+  pub fresh-length : length (freshBook sheet) ≡ 15557
+  unfolding freshBook
+  fresh-length = simp (length-sets, length-set) zero-length
+
+  pub fresh-count : unitCountIn (freshBook sheet) ≡ sheetOf sheet .unitCount
+  unfolding freshBook ids
+  fresh-count = getD-sets-below ids _ 37 0 (omega arith) ∙ getD-set-same zeroBook 0 _ 0 (omega (arith, zero-length))
+
+  -- the marks, M and bills
+  pub fresh-low : (x : ℕ) → 0 < x → x < 37 → getD (freshBook sheet) x 0 ≡ 0
+  unfolding freshBook ids
+  fresh-low x h l = getD-sets-below ids _ 37 x l ∙ getD-set-other zeroBook 0 x _ 0 (omega arith) ∙ zero-book-at x
+
+  -- what stands behind the ids
+  pub fresh-high : (x : ℕ) → 37 + sheetOf sheet .unitCount ≤ x → getD (freshBook sheet) x 0 ≡ 0
+  unfolding freshBook ids
+  fresh-high x h = getD-sets-above ids _ 37 x (omega (arith, ids-length)) ∙ getD-set-other zeroBook 0 x _ 0 (omega arith) ∙ zero-book-at x
+
+  pub fresh-id : sheetOf sheet .unitCount ≤ 160 → (i : ℕ) → getD (freshBook sheet) (37 + i) 0 ≡ getD (map (λ u. u .id) (sheetOf sheet .units)) i 0
+  unfolding freshBook ids
+  fresh-id few i = elim (decLt i (sheetOf sheet .unitCount)) [
+    | yes h ↦ getD-sets-in ids (set zeroBook 0 (sheetOf sheet .unitCount)) 37 i (omega (arith, ids-length)) (rw length-set (omega (arith, ids-length, zero-length)))
+    | no h ↦ fresh-high (37 + i) (omega arith) ∙ sym (List·getD-eq-default ids 0 (omega (arith, ids-length)))
+  ]
+
+-- ---- every call keeps the length
+afterwards-length : (o : Outcome) (b written : List ℕ) → length written ≡ length b → length (afterwards o b written) ≡ length b
+afterwards-length Accepted b written e = e
+afterwards-length (Refused r) b written e = refl
+
+pub call-keeps-length : (b : List ℕ) (c : Call) → length (lentAfter b c) ≡ length b
+unfolding lentAfter bookPosted bookReplaced bookWithdrawn putSheet clearMonth
+call-keeps-length b (post sheet) = afterwards-length (postAnswer b sheet) b _ (put-length b _ _ _ _ _)
+call-keeps-length b (replace sheet) = afterwards-length (replaceAnswer b sheet) b _ (put-length b _ _ _ _ _)
+call-keeps-length b (withdraw month) = afterwards-length (withdrawAnswer b month) b _ (put-length b _ _ _ _ _)
+call-keeps-length b (year place) = refl
+
+pub open-keeps-length : (b sheet : List ℕ) → length (bookOpened b sheet) ≡ length b
+unfolding bookOpened openAnswer firstRefusal
+open-keeps-length b sheet = elim (ℕ-discrete (length b) 15557) [
+  | yes e ↦ afterwards-length (openAnswer b sheet) b (freshBook sheet) (fresh-length sheet ∙ sym e)
+  | no d ↦ rw (ne-eqb (length b) 15557 d)
+]
+
+-- ---- the write of a settled sheet, by the month it settles to
+pub put-settled : (b sheet : List ℕ) (m : Month) → settledSheet sheet ≡ Settled.settled m
+    → putSheet b sheet ≡ putMonth b (m .month - 1) 1 (m .meter) (m .bill) (padded (m .unitCount) (m .numbers))
+unfolding putSheet monthOf
+put-settled b sheet m e = rw (settled-month sheet m e .1)

@@ -1,0 +1,115 @@
+// Post and replace: a settled sheet into its month.
+ghost use mathlib.Core.Path.{_≡_};
+ghost use mathlib.Core.Bool.{true, false};
+ghost use mathlib.Core.List.{map};
+ghost use Prim.Native.Nat.{_+_};
+ghost use lib.ListN.{length, take, drop};
+ghost use Rattle.sheet.specs.Layout.{sheetOf};
+ghost use Rattle.sheet.specs.Check.{sameBytes};
+ghost use Rattle.yearbook.specs.Calls.{replyOf};
+ghost use Rattle.yearbook.specs.LentBook.{otherBuilding, Answered};
+ghost use Rattle.yearbook.specs.Code.{bringCall, wrongMark, HoldsRows, Brings};
+use crate::lent;
+use crate::months;
+use sheet::Outcome;
+use sheet::Refusal;
+use sheet::rows;
+
+// Whether the sheet's n ids are the book's.
+fn same_ids(book: &[u32], sheet: &[u8], n: usize) -> bool
+    requires { ⌜ (length (now book) ≡ 15557) × HoldsRows (now sheet) n ⌝ }
+    ensures { λ r. ⌜ r ≡ sameBytes (take n (drop 37 (now (book .entry)))) (map (λ u. u .id) (sheetOf (now (sheet .entry)) .units)) ⌝ }
+{
+    for i in 0..n {
+        if book[37 + i] != rows::unit_field(sheet, i, rows::ID) {
+            return false;
+        }
+    }
+    true
+}
+
+// 16
+fn other_building(book: &[u32], sheet: &[u8], n: u32) -> bool
+    requires { ⌜ (length (now book) ≡ 15557) × HoldsRows (now sheet) n ⌝ }
+    ensures { λ r. ⌜ r ≡ otherBuilding (now (book .entry)) (sheetOf (now (sheet .entry))) ⌝ }
+{
+    if book[0] != n {
+        return true;
+    }
+    if same_ids(book, sheet, n as usize) {
+        return false;
+    }
+    true
+}
+
+// 17: the month stands (post) or doesn't (replace).
+fn wrong_mark(replacing: bool, mark: u32) -> bool
+    ensures { λ r. ⌜ r ≡ wrongMark replacing mark ⌝ }
+{
+    if replacing {
+        return mark != 1;
+    }
+    mark == 1
+}
+
+// A sheet that settles: 16, 17.
+fn enter(
+    book: &mut [u32],
+    sheet: &[u8],
+    replacing: bool,
+    month: u32,
+    n: u32,
+    meter: u32,
+    bill: u32,
+    block: &[u32],
+) -> Outcome
+    requires { ⌜ Brings (now book) (now sheet) month n meter bill (now block) ⌝ }
+    ensures { λ r. ⌜ Answered (now (book .entry)) (bringCall replacing (now (sheet .entry))) (replyOf r) (now (book .exit)) ⌝ }
+{
+    if other_building(book, sheet, n) {
+        return Outcome::Refused(Refusal::OtherBuilding);
+    }
+    let i = month as usize - 1;
+    if wrong_mark(replacing, book[1 + i]) {
+        return Outcome::Refused(Refusal::MonthState);
+    }
+    months::put_month(book, i, 1, meter, bill, block);
+    Outcome::Accepted
+}
+
+// 15, 1 to 12, then 16 and 17.
+fn bring(book: &mut [u32], sheet: &[u8], replacing: bool) -> Outcome
+    ensures { λ r. ⌜ Answered (now (book .entry)) (bringCall replacing (now (sheet .entry))) (replyOf r) (now (book .exit)) ⌝ }
+{
+    if lent::bad_book(book) {
+        return Outcome::Refused(Refusal::BadYearBook);
+    }
+    let r = settlement::settle_sheet(sheet);
+    let outcome = r.outcome;
+    let numbers = r.numbers;
+    let Outcome::Accepted = outcome else {
+        return outcome;
+    };
+    enter(
+        book,
+        sheet,
+        replacing,
+        r.month,
+        r.count,
+        r.meter,
+        r.bill,
+        &numbers,
+    )
+}
+
+pub fn post(book: &mut [u32], sheet: &[u8]) -> Outcome
+    ensures { λ r. ⌜ Answered (now (book .entry)) (Rattle.yearbook.specs.Calls.post (now (sheet .entry))) (replyOf r) (now (book .exit)) ⌝ }
+{
+    bring(book, sheet, false)
+}
+
+pub fn replace(book: &mut [u32], sheet: &[u8]) -> Outcome
+    ensures { λ r. ⌜ Answered (now (book .entry)) (Rattle.yearbook.specs.Calls.replace (now (sheet .entry))) (replyOf r) (now (book .exit)) ⌝ }
+{
+    bring(book, sheet, true)
+}

@@ -1,0 +1,14 @@
+// The year book (document 01, "Year book").
+mod bring;
+mod lent;
+mod months;
+mod opening;
+mod totals;
+mod withdrawal;
+
+pub use bring::post;
+pub use bring::replace;
+pub use opening::open;
+pub use totals::YearTotals;
+pub use totals::year;
+pub use withdrawal::withdraw;
