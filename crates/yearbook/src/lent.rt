@@ -3,7 +3,7 @@ ghost use mathlib.Core.Path.{_≡_};
 ghost use Rattle.yearbook.specs.LentBook.{badBook};
 
 // Not 15,557 numbers, n over 160 or a mark over 1.
-pub fn bad_book(book: &[u32]) -> bool
+pub(crate) fn bad_book(book: &[u32]) -> bool
     ensures { λ r. ⌜ r ≡ badBook (now (book .entry)) ⌝ }
 {
     if book.len() != 15557 {
