@@ -1,0 +1,57 @@
+//! The library's calls (include/heatcost.h), each behind a safe function.
+
+extern "C" {
+    fn heatcost_settle(sheet: *const u8, n: usize, statement: *mut u32, m: usize) -> u32;
+    fn heatcost_write_record(sheet: *const u8, n: usize, record: *mut u8, m: usize) -> u32;
+    fn heatcost_read_record(record: *const u8, n: usize) -> u32;
+    fn heatcost_record_sheet_len(record: *const u8, n: usize) -> u64;
+    fn heatcost_open(book: *mut u32, n: usize, sheet: *const u8, m: usize) -> u32;
+    fn heatcost_post(book: *mut u32, n: usize, sheet: *const u8, m: usize) -> u32;
+    fn heatcost_replace(book: *mut u32, n: usize, sheet: *const u8, m: usize) -> u32;
+    fn heatcost_withdraw(book: *mut u32, n: usize, month: u32) -> u32;
+    fn heatcost_year(book: *const u32, n: usize, place: u32, totals: *mut u64, m: usize) -> u32;
+}
+
+pub fn settle(sheet: &[u8], list: &mut [u32]) -> u32 {
+    unsafe { heatcost_settle(sheet.as_ptr(), sheet.len(), list.as_mut_ptr(), list.len()) }
+}
+
+pub fn write_record(sheet: &[u8], list: &mut [u8]) -> u32 {
+    unsafe { heatcost_write_record(sheet.as_ptr(), sheet.len(), list.as_mut_ptr(), list.len()) }
+}
+
+pub fn read_record(record: &[u8]) -> u32 {
+    unsafe { heatcost_read_record(record.as_ptr(), record.len()) }
+}
+
+pub fn record_sheet_len(record: &[u8]) -> u64 {
+    unsafe { heatcost_record_sheet_len(record.as_ptr(), record.len()) }
+}
+
+pub fn open(book: &mut [u32], sheet: &[u8]) -> u32 {
+    unsafe { heatcost_open(book.as_mut_ptr(), book.len(), sheet.as_ptr(), sheet.len()) }
+}
+
+pub fn post(book: &mut [u32], sheet: &[u8]) -> u32 {
+    unsafe { heatcost_post(book.as_mut_ptr(), book.len(), sheet.as_ptr(), sheet.len()) }
+}
+
+pub fn replace(book: &mut [u32], sheet: &[u8]) -> u32 {
+    unsafe { heatcost_replace(book.as_mut_ptr(), book.len(), sheet.as_ptr(), sheet.len()) }
+}
+
+pub fn withdraw(book: &mut [u32], month: u32) -> u32 {
+    unsafe { heatcost_withdraw(book.as_mut_ptr(), book.len(), month) }
+}
+
+pub fn year(book: &[u32], place: u32, totals: &mut [u64]) -> u32 {
+    unsafe {
+        heatcost_year(
+            book.as_ptr(),
+            book.len(),
+            place,
+            totals.as_mut_ptr(),
+            totals.len(),
+        )
+    }
+}
