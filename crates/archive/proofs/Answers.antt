@@ -19,7 +19,7 @@ use Rattle.month.specs.Month.{Month, Settled, refused, settled, statementOf, mo
 use Rattle.month.proofs.Laws.{settled-month, settled-laws}
 use Rattle.settlement.specs.declared.settling.Settlement.{Settlement}
 use Rattle.settlement.specs.Settle.{settlementOf}
-use Rattle.settlement.proofs.Answers.{orElse, first-of-both, settled-in-order}
+use Rattle.settlement.proofs.Answers.{orElse, first-of-both, settled-in-order, month-held}
 use Rattle.archive.specs.Record.{archiveHead, inBytes, archiveRecord}
 use Rattle.archive.specs.Reader.{body, sheetLength, bodyRules, readRules, readOutcome}
 use Rattle.archive.specs.Writer.{answerOf, writeAnswer, listOf, recordAfter}
@@ -27,10 +27,6 @@ use Rattle.archive.proofs.Inside.{inside, behind, same-count, all-lengt
 use Rattle.archive.proofs.RoundTrip.{passed, checked-body}
 
 -- ---- what a settlement holds
-month-held : (x : Settled) → settlementOf x .outcome ≡ Accepted → (m : Month) × (x ≡ settled m)
-month-held (settled m) e = (m, refl)
-month-held (refused q) e = absurd (let z : _≡_ {A = ℕ} 0 1 = cc in omega arith)
-
 module _ (sheet : List ℕ) (r : Settlement) (is : r ≡ settlementOf (settledSheet sheet)) (ok : r .outcome ≡ Accepted) where
   held : (m : Month) × (settledSheet sheet ≡ settled m)
   held = month-held (settledSheet sheet) (sym (ap (λ (r : Settlement). r .outcome) is) ∙ ok)

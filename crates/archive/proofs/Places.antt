@@ -1,22 +1,22 @@
 -- The place of every refusal of the writer and the reader is below 160, and how long the reader's part is. Assumes nothing.
 use mathlib.Core.Path.{_≡_, refl}
-use mathlib.Core.Bool.{Bool, true, false, not, _||_}
+use mathlib.Core.Bool.{not, _||_}
 use mathlib.Core.List.{List, [], _∷_, _++_}
 use Prim.Native.Nat.{ℕ, _+_, _*_}
 use native.Mathlib.Omega.{arith}
 use lib.Dec.{ltb, eqb}
 use lib.ListN.{length, take, drop}
 use lib.Seq.{length-take-le}
-use Rattle.sheet.specs.declared.refusal.Refusal.the-variants.{BufferLength, BadArchive}
+use Rattle.sheet.specs.declared.refusal.Refusal.the-variants.{BadArchive}
 use Rattle.sheet.specs.declared.refusal.Outcome.{Outcome}
 use Rattle.sheet.specs.declared.refusal.Outcome.the-variants.{Accepted, Refused}
-use Rattle.sheet.specs.Tests.{if_then_else_}
 use Rattle.sheet.specs.Refusals.{_⇒_, firstRefusal, PlaceBelow}
 use Rattle.sheet.specs.Layout.{sheetOf}
 use Rattle.sheet.specs.Check.{sameBytes, sheetRules}
 use Rattle.sheet.proofs.Places.{place-rule, sheet-place}
 use Rattle.month.specs.Month.{Month, monthOf, statementOf, settleRules, unlessRefused, settledSheet}
 use Rattle.month.proofs.Places.{month-place, settle-place}
+use Rattle.settlement.proofs.Places.{length-place}
 use Rattle.archive.specs.Record.{archiveHead, inBytes}
 use Rattle.archive.specs.Writer.{answerOf, writeAnswer}
 use Rattle.archive.specs.Reader.{body, sheetLength, bodyRules, readRules, readOutcome, startOf, countOf}
@@ -36,10 +36,6 @@ pub write-place : (sheet list : List ℕ) → PlaceBelow 160 (writeAnswer sheet 
 unfolding writeAnswer settledSheet
 write-place sheet list = go (firstRefusal (settleRules sheet)) (monthOf (sheetOf sheet)) (settle-place sheet)
   where
-    length-place : (t : Bool) → PlaceBelow 160 (if t then Accepted else Refused BufferLength)
-    length-place true = tt
-    length-place false = omega arith
-
     go : (o : Outcome) (m : Month) → PlaceBelow 160 o → PlaceBelow 160 (answerOf (unlessRefused o m) (length list))
     go Accepted m h = length-place (eqb (length list) (56 + 64 * m .unitCount))
     go (Refused r) m h = h

@@ -37,7 +37,7 @@ sum-of-readings n b [] e h = omega arith
 sum-of-readings zero b (x ∷ xs) e h = absurd (omega arith)
 sum-of-readings (suc n) b (x ∷ xs) e h = omega (arith, h 0 (omega arith), sum-of-readings n b xs (omega arith) (λ k l. h (suc k) (omega arith)))
 
-three-le : {a b c x y z : ℕ} → a ≤ x → b ≤ y → c ≤ z → a * b * c ≤ x * y * z
+pub three-le : {a b c x y z : ℕ} → a ≤ x → b ≤ y → c ≤ z → a * b * c ≤ x * y * z
 three-le h g f = mul-le-mul (mul-le-mul h g) f
 
 module _ (s : Sheet) (c : CheckedSheet s) where

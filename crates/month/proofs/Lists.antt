@@ -124,7 +124,7 @@ sumTo-fours (suc n) f =
     let at : (j k : ℕ) → m + j ≡ k → f (m + j) ≡ f k = λ j k e. ap f e in
     rw e (omega (arith, sumTo-fours n f, at 0 m (omega arith), at 1 (suc m) (omega arith), at 2 (suc (suc m)) (omega arith), at 3 (suc (suc (suc m))) (omega arith)))
 
-sumTo-front : (k : ℕ) (f : ℕ → ℕ) → sumTo (suc k) f ≡ f 0 + sumTo k (λ i. f (suc i))
+pub sumTo-front : (k : ℕ) (f : ℕ → ℕ) → sumTo (suc k) f ≡ f 0 + sumTo k (λ i. f (suc i))
 unfolding sumTo
 sumTo-front zero f = omega arith
 sumTo-front (suc k) f = omega (arith, sumTo-front k f)

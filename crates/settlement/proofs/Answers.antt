@@ -35,7 +35,7 @@ unfolding settledSheet settleRules checked
 settled-in-order bytes = ap (λ (o : Outcome). unlessRefused o (monthOf (sheetOf bytes))) (first-of-both (sheetRules 32 bytes) (monthRules (sheetOf bytes)))
 
 -- ---- 13
-month-held : (x : Settled) → settlementOf x .outcome ≡ Accepted → (m : Month) × (x ≡ settled m)
+pub month-held : (x : Settled) → settlementOf x .outcome ≡ Accepted → (m : Month) × (x ≡ settled m)
 month-held (settled m) e = (m, refl)
 month-held (refused q) e = absurd (let z : _≡_ {A = ℕ} 0 1 = cc in omega arith)
 

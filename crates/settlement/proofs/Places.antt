@@ -15,14 +15,15 @@ use Rattle.month.specs.Month.{Month, monthOf, settleRules, unlessRefused, settl
 use Rattle.month.proofs.Places.{settle-place}
 use Rattle.settlement.specs.Settle.{answerOf, settleAnswer}
 
+-- 13 by a test of the list's length
+pub length-place : (t : Bool) → PlaceBelow 160 (if t then Accepted else Refused BufferLength)
+length-place true = tt
+length-place false = omega arith
+
 pub answer-place : (bytes list : List ℕ) → PlaceBelow 160 (settleAnswer bytes list)
 unfolding settleAnswer settledSheet
 answer-place bytes list = go (firstRefusal (settleRules bytes)) (monthOf (sheetOf bytes)) (settle-place bytes)
   where
-    length-place : (t : Bool) → PlaceBelow 160 (if t then Accepted else Refused BufferLength)
-    length-place true = tt
-    length-place false = omega arith
-
     go : (o : Outcome) (m : Month) → PlaceBelow 160 o → PlaceBelow 160 (answerOf (unlessRefused o m) (length list))
     go Accepted m h = length-place (eqb (length list) (8 * m .unitCount))
     go (Refused r) m h = h

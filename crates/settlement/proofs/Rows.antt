@@ -29,9 +29,6 @@ unit-fits {bytes} {i} r = each-at (UnitFits (sheetOf bytes)) (sheetOf bytes .uni
 pub two-le : {a b x y : ℕ} → a ≤ x → b ≤ y → a * b ≤ x * y
 two-le h g = mul-le-mul h g
 
-pub three-le : {a b c x y z : ℕ} → a ≤ x → b ≤ y → c ≤ z → a * b * c ≤ x * y * z
-three-le h g f = mul-le-mul (mul-le-mul h g) f
-
 -- ---- one unit more
 pub bit-le : (t : Bool) → bit t ≤ 1
 bit-le true = omega arith

@@ -12,10 +12,10 @@ use Rattle.sheet.specs.Fits.{Each, UnitFits}
 use Rattle.month.specs.Weights.{those, sumOf, isRead, unreadWeight, totalArea, unreadWeights, readArea, readSurface, readingSum, unitsOfClass, litresByVolume, personsByPersons}
 use Rattle.month.proofs.Lists.{decided, sum-append}
 use Rattle.month.proofs.Accepted.{sum-those}
-use Rattle.month.proofs.Bounds.{sum-at-most}
+use Rattle.month.proofs.Bounds.{sum-at-most, three-le}
 use Rattle.settlement.specs.Totals.{onlyIf, ofUnit, plusTotals, TotalsOf, Within}
 use Rattle.settlement.specs.declared.totals.Totals.{Totals}
-use Rattle.settlement.proofs.Rows.{map-append, three-le}
+use Rattle.settlement.proofs.Rows.{map-append}
 
 -- the sums of some units
 pub record Sums (s : Sheet) (us : List UnitRow) (t : Totals) : Type 0 where

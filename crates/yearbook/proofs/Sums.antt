@@ -11,6 +11,7 @@ use Rattle.sheet.specs.Fits.{Each}
 use Rattle.month.specs.Fraction.{Fraction, Near, sumᶠ}
 use Rattle.month.specs.Laws.{sumTo}
 use Rattle.month.proofs.Nearness.{near-add, near-zero}
+use Rattle.month.proofs.Lists.{sumTo-front}
 use Rattle.yearbook.specs.Calls.{eight}
 use Rattle.yearbook.specs.PlainBook.{sheetsOf}
 
@@ -23,11 +24,6 @@ orZero f (some sheet) = f sheet
 abbrev pub IfHeld : (List ℕ → Type 0) → Option (List ℕ) → Type 0
 IfHeld P none = Unit {0}
 IfHeld P (some sheet) = P sheet
-
-sumTo-front : (k : ℕ) (f : ℕ → ℕ) → sumTo (suc k) f ≡ f 0 + sumTo k (λ i. f (suc i))
-unfolding sumTo
-sumTo-front zero f = omega arith
-sumTo-front (suc k) f = omega (arith, sumTo-front k f)
 
 sumTo-zeros : (k : ℕ) → sumTo k (λ i. 0) ≡ 0
 unfolding sumTo

@@ -2,7 +2,8 @@
 use mathlib.Core.Path.{refl}
 use Prim.Native.Nat.{_-_, _≤_}
 use native.Mathlib.Omega.{arith}
-use Rattle.settlement.proofs.Rows.{two-le, three-le}
+use Rattle.month.proofs.Bounds.{three-le}
+use Rattle.settlement.proofs.Rows.{two-le}
 use borrow.Author.Needs.{needs}
 use Rattle.settlement.proofs.weights.mixed.Statement.{statement}
 use Rattle.settlement.proofs.weights.mixed.Tie as tie

@@ -7,7 +7,8 @@ use lib.Dec.{eqb}
 use Rattle.sheet.specs.Layout.{sheetOf}
 use Rattle.sheet.specs.Fields.{unitOf}
 use Rattle.month.specs.Weights.{unreadWeight, readWeight}
-use Rattle.settlement.proofs.Rows.{unit-fits, two-le, three-le}
+use Rattle.month.proofs.Bounds.{three-le}
+use Rattle.settlement.proofs.Rows.{unit-fits, two-le}
 use borrow.Author.Needs.{needs}
 use Rattle.settlement.proofs.weights.unread_weight.Statement.{statement}
 use Rattle.settlement.proofs.weights.unread_weight.Tie as tie

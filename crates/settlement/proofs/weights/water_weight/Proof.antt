@@ -5,7 +5,8 @@ use native.Mathlib.Omega.{arith}
 use lib.Dec.{eqb}
 use borrow.Author.Tests.{eq-eqb, ne-eqb}
 use Rattle.month.specs.Weights.{waterWeight}
-use Rattle.settlement.proofs.Rows.{unit-fits, two-le, three-le}
+use Rattle.month.proofs.Bounds.{three-le}
+use Rattle.settlement.proofs.Rows.{unit-fits, two-le}
 use borrow.Author.Needs.{needs}
 use Rattle.settlement.proofs.weights.water_weight.Statement.{statement}
 use Rattle.settlement.proofs.weights.water_weight.Tie as tie
