@@ -12,15 +12,15 @@ use Rattle.sheet.specs.declared.refusal.Refusal.the-variants.{BufferLength, Bad
 use Rattle.sheet.specs.declared.refusal.Outcome.{Outcome}
 use Rattle.sheet.specs.declared.refusal.Outcome.the-variants.{Accepted, Refused}
 use Rattle.sheet.specs.Refusals.{Rule, _⇒_, firstRefusal}
-use Rattle.sheet.specs.Layout.{Sheet, sheetOf}
-use Rattle.sheet.specs.Check.{sameBytes, sheetRules, checked}
+use Rattle.sheet.specs.Layout.{Sheet, sheetOf, inBytes}
+use Rattle.sheet.specs.Check.{sameList, sheetRules, checked}
 use Rattle.sheet.proofs.Fits.{fits}
 use Rattle.month.specs.Month.{Month, Settled, refused, settled, statementOf, monthOf, monthRules, settledSheet, unlessRefused}
 use Rattle.month.proofs.Laws.{settled-month, settled-laws}
 use Rattle.settlement.specs.declared.settling.Settlement.{Settlement}
 use Rattle.settlement.specs.Settle.{settlementOf}
 use Rattle.settlement.proofs.Answers.{orElse, first-of-both, settled-in-order, month-held}
-use Rattle.archive.specs.Record.{archiveHead, inBytes, archiveRecord}
+use Rattle.archive.specs.Record.{archiveHead, archiveRecord}
 use Rattle.archive.specs.Reader.{body, sheetLength, bodyRules, readRules, readOutcome}
 use Rattle.archive.specs.Writer.{answerOf, writeAnswer, listOf, recordAfter}
 use Rattle.archive.proofs.Inside.{inside, behind, same-count, all-length, same-sheet, inside-checked}
@@ -99,11 +99,11 @@ module _ (bytes : List ℕ) where
   short-record h = rw (lt-ltb _ _ h)
 
   module _ (long : 8 ≤ length bytes) where
-    pub wrong-head : sameBytes (take 8 bytes) archiveHead ≡ false → Refused BadArchive ≡ readOutcome bytes
+    pub wrong-head : sameList (take 8 bytes) archiveHead ≡ false → Refused BadArchive ≡ readOutcome bytes
     unfolding readOutcome readRules firstRefusal
     wrong-head h = rw (le-ltb _ _ long, h)
 
-    module _ (head : sameBytes (take 8 bytes) archiveHead ≡ true) where
+    module _ (head : sameList (take 8 bytes) archiveHead ≡ true) where
       by-body : readOutcome bytes ≡ orElse (checked 64 (from 8 bytes)) (firstRefusal (bodyRules (from 8 bytes)))
       unfolding readOutcome readRules firstRefusal checked
       by-body = rw (to-end 8 bytes, le-ltb _ _ long, head) (first-of-both (sheetRules 64 (body bytes)) (bodyRules (body bytes)))
@@ -143,7 +143,7 @@ module _ (bytes : List ℕ) (e : checked 64 bytes ≡ Accepted) (n : ℕ) (count
       ∙ ap (λ (s : Sheet). firstRefusal (monthRules s)) (sym (same-sheet bytes e))
 
   abbrev last : List Rule
-  last = (not (sameBytes (behind bytes) (inBytes (statementOf (sheetOf bytes)))) ⇒ BadArchive) ∷ []
+  last = (not (sameList (behind bytes) (inBytes (statementOf (sheetOf bytes)))) ⇒ BadArchive) ∷ []
 
   by-month : firstRefusal (bodyRules bytes) ≡ orElse (r .outcome) (firstRefusal last)
   unfolding bodyRules
@@ -170,8 +170,8 @@ module _ (bytes : List ℕ) (e : checked 64 bytes ≡ Accepted) (n : ℕ) (count
         ∙ ap (λ (m : Month). m .numbers) (month-is (inside bytes) r is ok)
         ∙ ap statementOf (sym (same-sheet bytes e))
 
-    pub by-statement : (t : Bool) → t ≡ sameBytes (from (48 + 32 * n) bytes) (inBytes (take (8 * n) (r .numbers))) → firstRefusal ((not t ⇒ BadArchive) ∷ []) ≡ firstRefusal (bodyRules bytes)
+    pub by-statement : (t : Bool) → t ≡ sameList (from (48 + 32 * n) bytes) (inBytes (take (8 * n) (r .numbers))) → firstRefusal ((not t ⇒ BadArchive) ∷ []) ≡ firstRefusal (bodyRules bytes)
     by-statement t h =
         let end : from (48 + 32 * n) bytes ≡ behind bytes = to-end (48 + 32 * n) bytes ∙ ap (λ (k : ℕ). drop (48 + 32 * k) bytes) count in
-        let test = h ∙ ap₂ (λ (x y : List ℕ). sameBytes x (inBytes y)) end numbers-held in
+        let test = h ∙ ap₂ (λ (x y : List ℕ). sameList x (inBytes y)) end numbers-held in
         ap (λ (t : Bool). firstRefusal ((not t ⇒ BadArchive) ∷ [])) test ∙ sym (by-month ∙ ap (λ (o : Outcome). orElse o (firstRefusal last)) ok)

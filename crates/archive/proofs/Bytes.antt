@@ -9,30 +9,29 @@ use lib.Dec.{eqb}
 use lib.ListN.{length, getD, set, take, drop, length-append, length-set, drop-of-length-le}
 use lib.Seq.{drop-cons, take-at, drop-at, take-suc-set}
 use borrow.Author.Tests.{eq-eqb, ne-eqb, eqb-true}
-use Rattle.sheet.specs.Layout.{byte, le32}
-use Rattle.sheet.specs.Check.{sameBytes}
+use Rattle.sheet.specs.Layout.{byte, le32, bytes32, inBytes}
+use Rattle.sheet.specs.Check.{sameList}
 use Rattle.sheet.proofs.Passed.{and-true}
-use Rattle.archive.specs.Record.{bytes32, inBytes}
 
 -- ---- bytes compared
-pub same-itself : (xs : List ℕ) → sameBytes xs xs ≡ true
+pub same-itself : (xs : List ℕ) → sameList xs xs ≡ true
 same-itself [] = refl
 same-itself (x ∷ xs) = rw (eq-eqb x x refl) (same-itself xs)
 
-pub same-equal : (xs ys : List ℕ) → sameBytes xs ys ≡ true → xs ≡ ys
+pub same-equal : (xs ys : List ℕ) → sameList xs ys ≡ true → xs ≡ ys
 same-equal [] [] e = refl
 same-equal [] (y ∷ ys) e = absurd (let z : _≡_ {A = ℕ} 0 1 = cc in omega arith)
 same-equal (x ∷ xs) [] e = absurd (let z : _≡_ {A = ℕ} 0 1 = cc in omega arith)
 same-equal (x ∷ xs) (y ∷ ys) e =
-    let both = and-true (eqb x y) (sameBytes xs ys) e in
+    let both = and-true (eqb x y) (sameList xs ys) e in
     ap₂ (λ (n : ℕ) (ns : List ℕ). n ∷ ns) (eqb-true x y (both .0)) (same-equal xs ys (both .1))
 
 -- one byte further, and a byte that differs
 module _ (xs ys : List ℕ) (i : ℕ) (h : i < length xs) (k : i < length ys) where
-  pub same-more : getD xs i 0 ≡ getD ys i 0 → sameBytes (drop (i + 1) xs) (drop (i + 1) ys) ≡ sameBytes (drop i xs) (drop i ys)
+  pub same-more : getD xs i 0 ≡ getD ys i 0 → sameList (drop (i + 1) xs) (drop (i + 1) ys) ≡ sameList (drop i xs) (drop i ys)
   same-more e = rw (add-one, drop-cons xs i 0 h, drop-cons ys i 0 k, eq-eqb _ _ e)
 
-  pub same-fault : (getD xs i 0 ≡ getD ys i 0 → ⊥) → sameBytes (drop i xs) (drop i ys) ≡ false
+  pub same-fault : (getD xs i 0 ≡ getD ys i 0 → ⊥) → sameList (drop i xs) (drop i ys) ≡ false
   same-fault e = rw (drop-cons xs i 0 h, drop-cons ys i 0 k, ne-eqb _ _ e)
 
 -- ---- numbers in bytes
@@ -60,11 +59,11 @@ four-bytes n h =
     omega arith
 
 module _ (a b c d n : ℕ) (xs ys : List ℕ) where
-  same-four : a < 256 → b < 256 → c < 256 → d < 256 → a + 256 * b + 65536 * c + 16777216 * d ≡ n → sameBytes (a ∷ b ∷ c ∷ d ∷ xs) (bytes32 n ++ ys) ≡ sameBytes xs ys
+  same-four : a < 256 → b < 256 → c < 256 → d < 256 → a + 256 * b + 65536 * c + 16777216 * d ≡ n → sameList (a ∷ b ∷ c ∷ d ∷ xs) (bytes32 n ++ ys) ≡ sameList xs ys
   same-four p q r s e =
       rw (eq-eqb a (n % 256) (omega arith), eq-eqb b (n / 256 % 256) (omega arith), eq-eqb c (n / 65536 % 256) (omega arith), eq-eqb d (n / 16777216 % 256) (omega arith))
 
-  other-four : n < 4294967296 → (a + 256 * b + 65536 * c + 16777216 * d ≡ n → ⊥) → sameBytes (a ∷ b ∷ c ∷ d ∷ xs) (bytes32 n ++ ys) ≡ false
+  other-four : n < 4294967296 → (a + 256 * b + 65536 * c + 16777216 * d ≡ n → ⊥) → sameList (a ∷ b ∷ c ∷ d ∷ xs) (bytes32 n ++ ys) ≡ false
   other-four h e =
       refuted _ (λ t.
       let p = and-true (eqb a (n % 256)) _ t in
@@ -93,10 +92,10 @@ module _ (bytes numbers : List ℕ) (i : ℕ) (h : 4 * i + 4 ≤ length bytes) (
   unfolding inBytes
   open-number = rw (add-one, drop-cons numbers i 0 k)
 
-  pub number-more : ((j : ℕ) → byte bytes j < 256) → le32 bytes at ≡ getD numbers i 0 → sameBytes (drop (4 * (i + 1)) bytes) (inBytes (drop (i + 1) numbers)) ≡ sameBytes (drop at bytes) (inBytes (drop i numbers))
+  pub number-more : ((j : ℕ) → byte bytes j < 256) → le32 bytes at ≡ getD numbers i 0 → sameList (drop (4 * (i + 1)) bytes) (inBytes (drop (i + 1) numbers)) ≡ sameList (drop at bytes) (inBytes (drop i numbers))
   number-more low e = rw (open-bytes, open-number) (sym (same-four _ _ _ _ _ (drop (4 * (i + 1)) bytes) (inBytes (drop (i + 1) numbers)) (low at) (low (at + 1)) (low (at + 2)) (low (at + 3)) e))
 
-  pub number-fault : getD numbers i 0 < 4294967296 → (le32 bytes at ≡ getD numbers i 0 → ⊥) → sameBytes (drop at bytes) (inBytes (drop i numbers)) ≡ false
+  pub number-fault : getD numbers i 0 < 4294967296 → (le32 bytes at ≡ getD numbers i 0 → ⊥) → sameList (drop at bytes) (inBytes (drop i numbers)) ≡ false
   number-fault low e = rw (open-bytes, open-number) (other-four _ _ _ _ _ (drop (4 * (i + 1)) bytes) (inBytes (drop (i + 1) numbers)) low e)
 
 -- four bytes written

@@ -11,13 +11,13 @@ use Rattle.sheet.specs.declared.refusal.Refusal.the-variants.{BadArchive}
 use Rattle.sheet.specs.declared.refusal.Outcome.{Outcome}
 use Rattle.sheet.specs.declared.refusal.Outcome.the-variants.{Accepted, Refused}
 use Rattle.sheet.specs.Refusals.{_⇒_, firstRefusal, PlaceBelow}
-use Rattle.sheet.specs.Layout.{sheetOf}
-use Rattle.sheet.specs.Check.{sameBytes, sheetRules}
+use Rattle.sheet.specs.Layout.{sheetOf, inBytes}
+use Rattle.sheet.specs.Check.{sameList, sheetRules}
 use Rattle.sheet.proofs.Places.{place-rule, sheet-place}
 use Rattle.month.specs.Month.{Month, monthOf, statementOf, settleRules, unlessRefused, settledSheet}
 use Rattle.month.proofs.Places.{month-place, settle-place}
 use Rattle.settlement.proofs.Places.{length-place}
-use Rattle.archive.specs.Record.{archiveHead, inBytes}
+use Rattle.archive.specs.Record.{archiveHead}
 use Rattle.archive.specs.Writer.{answerOf, writeAnswer}
 use Rattle.archive.specs.Reader.{body, sheetLength, bodyRules, readRules, readOutcome, startOf, countOf}
 use Rattle.archive.proofs.Inside.{all-length}
@@ -28,8 +28,8 @@ unfolding readOutcome readRules bodyRules firstRefusal
 read-place bytes =
     let b = body bytes in
     let s = sheetOf b in
-    let wrong = not (sameBytes (drop (48 + 32 * s .unitCount) b) (inBytes (statementOf s))) in
-    place-rule 160 (ltb (length bytes) 8 || not (sameBytes (take 8 bytes) archiveHead)) BadArchive (sheetRules 64 b ++ bodyRules b) (omega arith)
+    let wrong = not (sameList (drop (48 + 32 * s .unitCount) b) (inBytes (statementOf s))) in
+    place-rule 160 (ltb (length bytes) 8 || not (sameList (take 8 bytes) archiveHead)) BadArchive (sheetRules 64 b ++ bodyRules b) (omega arith)
     (λ _. sheet-place 64 b (bodyRules b) (month-place s ((wrong ⇒ BadArchive) ∷ []) (place-rule 160 wrong BadArchive [] (omega arith) (λ _. tt))))
 
 pub write-place : (sheet list : List ℕ) → PlaceBelow 160 (writeAnswer sheet list)

@@ -10,15 +10,15 @@ use lib.Seq.{take-at, drop-at}
 use borrow.Author.Tests.{le-ltb, not-false}
 use Rattle.sheet.specs.declared.refusal.Outcome.the-variants.{Accepted}
 use Rattle.sheet.specs.Refusals.{firstRefusal}
-use Rattle.sheet.specs.Layout.{Sheet, sheetOf}
-use Rattle.sheet.specs.Check.{sameBytes, sheetRules, checked}
+use Rattle.sheet.specs.Layout.{Sheet, sheetOf, inBytes}
+use Rattle.sheet.specs.Check.{sameList, sheetRules, checked}
 use Rattle.sheet.proofs.Passed.{NoneHolds, none-holds, holds-none, both-none, none-of-both}
 use Rattle.sheet.proofs.Units.{sheet-append}
 use Rattle.sheet.proofs.Fits.{fits}
 use Rattle.sheet.proofs.Verdict.{part-checked}
 use Rattle.month.specs.Month.{Month, monthRules, statementOf, monthOf, settled, settleRules, settledSheet}
 use Rattle.month.proofs.Laws.{settled-month, settled-laws}
-use Rattle.archive.specs.Record.{archiveHead, inBytes, archiveRecord}
+use Rattle.archive.specs.Record.{archiveHead, archiveRecord}
 use Rattle.archive.specs.Reader.{body, sheetLength, bodyRules, readRules, readOutcome}
 use Rattle.archive.specs.Theorems.{RightHead, sheetInside, HoldsItsSettlement, ReaderAcceptsExactly, WrittenIsReadBack, OneRecordASheet}
 use Rattle.archive.proofs.Bytes.{same-itself, same-equal, bytes-length}
@@ -52,7 +52,7 @@ module _ (sheet : List ℕ) (m : Month) (e : settledSheet sheet ≡ settled m) w
   unfolding checked
   part-passes = none-holds _ (part-checked sheet behind sheet-length behind-length ∙ passed .0)
 
-  same-statement : sameBytes (drop (48 + 32 * sheetOf (sheet ++ behind) .unitCount) (sheet ++ behind)) (inBytes (statementOf (sheetOf (sheet ++ behind)))) ≡ true
+  same-statement : sameList (drop (48 + 32 * sheetOf (sheet ++ behind) .unitCount) (sheet ++ behind)) (inBytes (statementOf (sheetOf (sheet ++ behind)))) ≡ true
   unfolding monthOf
   same-statement =
       rw (same, ← ap (λ (m : Month). m .numbers) is-month, drop-at sheet behind (48 + 32 * sheetOf sheet .unitCount) sheet-length) (same-itself behind)

@@ -2,25 +2,23 @@
 use mathlib.Core.Path.{_≡_, refl}
 use mathlib.Core.List.{List, [], _∷_, _++_, map}
 use Prim.Native.Nat.{ℕ}
-use lib.ListN.{set, take, drop, replicate}
+use lib.ListN.{take, drop}
 use Rattle.apportion.specs.Shares.{sharesBy}
 use Rattle.sheet.specs.declared.refusal.Outcome.{Outcome}
 use Rattle.sheet.specs.declared.refusal.Outcome.the-variants.{Accepted, Refused}
 use Rattle.sheet.specs.Tests.{all, any}
 use Rattle.sheet.specs.Refusals.{numberOf, placeOf, firstRefusal}
-use Rattle.sheet.specs.Layout.{unitRow, rows, sheetOf}
+use Rattle.sheet.specs.Layout.{unitRow, rows, sheetOf, inBytes}
 use Rattle.sheet.specs.Check.{headerTests, rowTests, rowRules, sheetRules}
+use Rattle.sheet.specs.Samples.{zeros, put, unitBytes, joined, sheetBytes, caseA}
 use Rattle.month.specs.Weights.{allMetered, meteredSum, hasPool, totalArea, unreadWeight, unreadWeights, poolWeight, readingSum, readArea, readSurface, areaWeight, surfaceWeight, readWeight, readWeights, unitsOfClass, litresByVolume, personsByPersons, waterWeight}
 use Rattle.month.specs.Steps.{splitBy, inUnitOrder, unitByUnit, hotWater, spaceHeat, heatParts, poolShares, readShares, heat, commonHeat, waterParts, water, commonWater, energies}
 use Rattle.month.specs.Month.{hotWaterWh, spaceHeatWh, zeroWaterDivisor, zeroDivisor, monthRules, billCents, costs, fourAndFour, statementOf, monthOf, settleRules, settledSheet}
-use Rattle.archive.specs.Record.{inBytes, archiveRecord}
+use Rattle.archive.specs.Record.{archiveRecord}
 use Rattle.archive.specs.Reader.{bodyRules, readRules, readOutcome, startOf, countOf}
 use Rattle.archive.specs.Writer.{writeAnswer, recordAfter}
 
 -- ---- the record of case A, byte by byte
-abbrev zeros : ℕ → List ℕ
-zeros n = replicate n 0
-
 -- month 1, model 3, three units, v 30, z 20, f 30; M 1,000,000; price 10,000
 abbrev header : List ℕ
 header =
@@ -30,9 +28,6 @@ header =
 -- KF 1,000; p and b in two bytes each
 abbrev unit : (id p₀ p₁ b₀ b₁ : ℕ) → List ℕ
 unit id p₀ p₁ b₀ b₁ = (id ∷ 0 ∷ 0 ∷ 0 ∷ 0 ∷ 0 ∷ 232 ∷ 3 ∷ p₀ ∷ p₁ ∷ []) ++ (zeros 10 ++ ((b₀ ∷ b₁ ∷ []) ++ zeros 10))
-
-sheetA : List ℕ
-sheetA = header ++ (unit 11 244 1 100 0 ++ (unit 12 244 1 44 1 ++ unit 13 232 3 88 2))
 
 -- 116,000, 50,000, 0, 0, 1,160, 500, 0, 0; 228,000, 50,000, 0, 0, 2,280, 500, 0, 0; 456,000, 100,000, 0, 0, 4,560, 1,000, 0, 0
 statementA : List ℕ
@@ -45,11 +40,7 @@ statementA =
     ++ (208 ∷ 17 ∷ 0 ∷ 0 ∷ 232 ∷ 3 ∷ 0 ∷ 0 ∷ zeros 8)))))
 
 recordA : List ℕ
-recordA = (72 ∷ 67 ∷ 65 ∷ 0 ∷ 1 ∷ 0 ∷ 0 ∷ 0 ∷ []) ++ (sheetA ++ statementA)
-
--- the bytes with x at place `at`
-abbrev put : (at x : ℕ) → List ℕ → List ℕ
-put at x bytes = set bytes at x
+recordA = (72 ∷ 67 ∷ 65 ∷ 0 ∷ 1 ∷ 0 ∷ 0 ∷ 0 ∷ []) ++ (header ++ (unit 11 244 1 100 0 ++ (unit 12 244 1 44 1 ++ (unit 13 232 3 88 2 ++ statementA))))
 
 -- ---- answers: the bytes handed back or written, or number and place with the bytes left
 pub data Answer : Type 0 where
@@ -79,7 +70,7 @@ expected (x gives y) = y
 
 pub cases : List Case
 cases =
-    (reads recordA gives accepts sheetA)
+    (reads recordA gives accepts caseA)
     -- 14: under 8 bytes; mark, version, last byte of the head
     ∷ (reads [] gives refuses 14 0 [])
     ∷ (reads (take 7 recordA) gives refuses 14 0 [])
@@ -99,14 +90,14 @@ cases =
     ∷ (reads (put 200 137 recordA) gives refuses 14 0 [])
     ∷ (reads (put 247 1 recordA) gives refuses 14 0 [])
     -- written; 13 on a list of another length; 5 before 13
-    ∷ (writes sheetA (zeros 248) gives accepts recordA)
-    ∷ (writes sheetA (7 ∷ zeros 246) gives refuses 13 0 (7 ∷ zeros 246))
-    ∷ (writes (take 143 sheetA) (7 ∷ []) gives refuses 5 0 (7 ∷ []))
+    ∷ (writes caseA (zeros 248) gives accepts recordA)
+    ∷ (writes caseA (7 ∷ zeros 246) gives refuses 13 0 (7 ∷ zeros 246))
+    ∷ (writes (take 143 caseA) (7 ∷ []) gives refuses 5 0 (7 ∷ []))
     ∷ []
 
 pub all-cases : map given cases ≡ map expected cases
-unfolding cases sheetA statementA recordA reads writes
-    inBytes archiveRecord bodyRules readRules readOutcome writeAnswer recordAfter
+unfolding cases statementA recordA reads writes
+    unitBytes joined sheetBytes inBytes archiveRecord bodyRules readRules readOutcome writeAnswer recordAfter
     sharesBy all any firstRefusal unitRow rows sheetOf headerTests rowTests rowRules sheetRules
     allMetered meteredSum hasPool totalArea unreadWeight unreadWeights poolWeight readingSum readArea readSurface areaWeight surfaceWeight readWeight readWeights unitsOfClass litresByVolume personsByPersons waterWeight
     splitBy inUnitOrder unitByUnit hotWater spaceHeat heatParts poolShares readShares heat commonHeat waterParts water commonWater energies

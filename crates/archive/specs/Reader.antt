@@ -10,10 +10,10 @@ use Rattle.sheet.specs.declared.refusal.Refusal.the-variants.{BadArchive}
 use Rattle.sheet.specs.declared.refusal.Outcome.{Outcome}
 use Rattle.sheet.specs.declared.refusal.Outcome.the-variants.{Accepted, Refused}
 use Rattle.sheet.specs.Refusals.{Rule, _⇒_, firstRefusal}
-use Rattle.sheet.specs.Layout.{sheetOf}
-use Rattle.sheet.specs.Check.{sameBytes, sheetRules}
+use Rattle.sheet.specs.Layout.{sheetOf, inBytes}
+use Rattle.sheet.specs.Check.{sameList, sheetRules}
 use Rattle.month.specs.Month.{monthRules, statementOf}
-use Rattle.archive.specs.Record.{archiveHead, inBytes}
+use Rattle.archive.specs.Record.{archiveHead}
 
 -- the record from byte 8 on: the sheet and its statement
 abbrev pub body : List ℕ → List ℕ
@@ -26,12 +26,12 @@ sheetLength record-bytes = 48 + 32 * sheetOf (body record-bytes) .unitCount
 unfoldable pub bodyRules : List ℕ → List Rule
 bodyRules bytes =
     let s = sheetOf bytes in
-    monthRules s ++ (not (sameBytes (drop (48 + 32 * s .unitCount) bytes) (inBytes (statementOf s))) ⇒ BadArchive) ∷ []
+    monthRules s ++ (not (sameList (drop (48 + 32 * s .unitCount) bytes) (inBytes (statementOf s))) ⇒ BadArchive) ∷ []
 
 -- 14 under 8 bytes or on a wrong head; then the sheet's 1 to 7, where 5 wants 48 + 64n; then the above
 unfoldable pub readRules : List ℕ → List Rule
 readRules record-bytes =
-    (ltb (length record-bytes) 8 || not (sameBytes (take 8 record-bytes) archiveHead) ⇒ BadArchive)
+    (ltb (length record-bytes) 8 || not (sameList (take 8 record-bytes) archiveHead) ⇒ BadArchive)
     ∷ sheetRules 64 (body record-bytes)
     ++ bodyRules (body record-bytes)
 

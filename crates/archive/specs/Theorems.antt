@@ -3,9 +3,10 @@ use mathlib.Core.Path.{_≡_}
 use mathlib.Core.List.{List}
 use Prim.Native.Nat.{ℕ}
 use lib.ListN.{take, drop}
+use Rattle.sheet.specs.Layout.{inBytes}
 use Rattle.sheet.specs.declared.refusal.Outcome.the-variants.{Accepted}
 use Rattle.month.specs.Month.{Month, settled, settledSheet}
-use Rattle.archive.specs.Record.{archiveHead, inBytes, archiveRecord}
+use Rattle.archive.specs.Record.{archiveHead, archiveRecord}
 use Rattle.archive.specs.Reader.{body, sheetLength, readOutcome}
 
 -- a record with the right head, and the sheet inside

@@ -2,10 +2,11 @@
 ghost use mathlib.Core.Path.{_≡_};
 ghost use Prim.Native.Nat.{_*_, _≤_};
 ghost use lib.ListN.{length, take};
+ghost use Rattle.sheet.specs.Layout.{inBytes};
 ghost use Rattle.sheet.specs.declared.refusal.Outcome.the-variants.{Accepted};
 ghost use Rattle.sheet.specs.Refusals.{firstRefusal};
-ghost use Rattle.sheet.specs.Check.{checked, sameBytes};
-ghost use Rattle.archive.specs.Record.{archiveHead, inBytes};
+ghost use Rattle.sheet.specs.Check.{checked, sameList};
+ghost use Rattle.archive.specs.Record.{archiveHead};
 ghost use Rattle.archive.specs.Reader.{bodyRules, readOutcome, startOf, countOf, PartOf};
 use crate::head::HEAD;
 use sheet::Outcome;
@@ -16,7 +17,7 @@ use sheet::header;
 // `HCA`, 0, version 1, two zeros.
 fn head_fits(bytes: &[u8]) -> bool
     requires { ⌜ 8 ≤ length (now bytes) ⌝ }
-    ensures { λ r. ⌜ r ≡ sameBytes (take 8 (now (bytes .entry))) archiveHead ⌝ }
+    ensures { λ r. ⌜ r ≡ sameList (take 8 (now (bytes .entry))) archiveHead ⌝ }
 {
     for i in 0..8usize {
         if bytes[i] != HEAD[i] {
@@ -29,7 +30,7 @@ fn head_fits(bytes: &[u8]) -> bool
 // The bytes are the first `count` numbers, four bytes each.
 fn same_statement(bytes: &[u8], numbers: &[u32], count: usize) -> bool
     requires { ⌜ (length (now bytes) ≡ 4 * count) × (count ≤ length (now numbers)) × (count ≤ 1280) ⌝ }
-    ensures { λ r. ⌜ r ≡ sameBytes (now (bytes .entry)) (inBytes (take count (now (numbers .entry)))) ⌝ }
+    ensures { λ r. ⌜ r ≡ sameList (now (bytes .entry)) (inBytes (take count (now (numbers .entry)))) ⌝ }
 {
     for i in 0..count {
         if read32(bytes, 4 * i) != numbers[i] {

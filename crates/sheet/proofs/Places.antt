@@ -12,7 +12,7 @@ use Rattle.sheet.specs.declared.refusal.Outcome.the-variants.{Accepted, 
 use Rattle.sheet.specs.Tests.{all}
 use Rattle.sheet.specs.Refusals.{Rule, _⇒_, firstRefusal, placeOf, PlaceBelow}
 use Rattle.sheet.specs.Layout.{UnitRow, Sheet, sheetOf}
-use Rattle.sheet.specs.Check.{headerTests, rowTests, notAbove, rowRules, sheetRules, sameBytes, sheetMagic, checked}
+use Rattle.sheet.specs.Check.{headerTests, rowTests, notAbove, rowRules, sheetRules, sameList, sheetMagic, checked}
 use Rattle.sheet.proofs.Passed.{all-of, in-range}
 use Rattle.sheet.proofs.Units.{units-count}
 
@@ -37,7 +37,7 @@ unfolding sheetRules headerTests
 sheet-place width bytes rules f =
     let s = sheetOf bytes in
     place-rule 160 (ltb (length bytes) 48) _ _ (omega arith)
-    (λ _. place-rule 160 (not (sameBytes (s .magic) sheetMagic)) _ _ (omega arith)
+    (λ _. place-rule 160 (not (sameList (s .magic) sheetMagic)) _ _ (omega arith)
     (λ _. place-rule 160 (not (eqb (s .version) 1)) _ _ (omega arith)
     (λ _. place-rule 160 (not (all (headerTests s))) _ _ (omega arith)
     (λ e. place-rule 160 (not (eqb (length bytes) (48 + width * s .unitCount))) _ _ (omega arith)

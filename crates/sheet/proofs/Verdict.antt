@@ -13,7 +13,7 @@ use Rattle.sheet.specs.declared.refusal.Refusal.the-variants.{TooShort, 
 use Rattle.sheet.specs.Tests.{all}
 use Rattle.sheet.specs.Refusals.{Rule, _⇒_, firstRefusal}
 use Rattle.sheet.specs.Layout.{Sheet, sheetOf}
-use Rattle.sheet.specs.Check.{checked, sheetRules, headerTests, rowRules, sameBytes}
+use Rattle.sheet.specs.Check.{checked, sheetRules, headerTests, rowRules, sameList}
 use Rattle.sheet.proofs.Units.{sheet-append}
 
 module _ (width : ℕ) (bytes : List ℕ) where
@@ -22,11 +22,11 @@ module _ (width : ℕ) (bytes : List ℕ) where
   too-short h = rw (lt-ltb _ _ h)
 
   module _ (long : 48 ≤ length bytes) where
-    pub bad-magic : sameBytes (sheetOf bytes .magic) (72 ∷ 67 ∷ 83 ∷ 0 ∷ []) ≡ false → checked width bytes ≡ Refused BadMagic
+    pub bad-magic : sameList (sheetOf bytes .magic) (72 ∷ 67 ∷ 83 ∷ 0 ∷ []) ≡ false → checked width bytes ≡ Refused BadMagic
     unfolding checked sheetRules firstRefusal
     bad-magic e = rw (le-ltb _ _ long, e)
 
-    module _ (magic : sameBytes (sheetOf bytes .magic) (72 ∷ 67 ∷ 83 ∷ 0 ∷ []) ≡ true) where
+    module _ (magic : sameList (sheetOf bytes .magic) (72 ∷ 67 ∷ 83 ∷ 0 ∷ []) ≡ true) where
       pub bad-version : (sheetOf bytes .version ≡ 1 → ⊥) → checked width bytes ≡ Refused UnsupportedVersion
       unfolding checked sheetRules firstRefusal
       bad-version h = rw (le-ltb _ _ long, magic, ne-eqb _ _ h)
@@ -49,7 +49,7 @@ module _ (width : ℕ) (bytes : List ℕ) where
 abbrev rulesBy : Bool → Bool → Sheet → List Rule
 rulesBy short fits s =
     (short ⇒ TooShort)
-    ∷ (not (sameBytes (s .magic) (72 ∷ 67 ∷ 83 ∷ 0 ∷ [])) ⇒ BadMagic)
+    ∷ (not (sameList (s .magic) (72 ∷ 67 ∷ 83 ∷ 0 ∷ [])) ⇒ BadMagic)
     ∷ (not (eqb (s .version) 1) ⇒ UnsupportedVersion)
     ∷ (not (all (headerTests s)) ⇒ HeaderField)
     ∷ (not fits ⇒ WrongLength)

@@ -1,46 +1,18 @@
 -- Computed cases of the check: each of refusals 1 to 7, its ends, and which of two faults decides. One table, one theorem.
 use mathlib.Core.Path.{_≡_, refl}
 use mathlib.Core.List.{List, [], _∷_, _++_, map}
-use Prim.Native.Nat.{ℕ, _+_, _*_, _/_, _%_}
-use lib.ListN.{set, take, replicate}
+use Prim.Native.Nat.{ℕ, _+_, _*_}
+use lib.ListN.{take}
 use Rattle.sheet.specs.declared.refusal.Outcome.{Outcome}
 use Rattle.sheet.specs.declared.refusal.Outcome.the-variants.{Accepted, Refused}
 use Rattle.sheet.specs.declared.refusal.Refusal.the-variants.{TooShort, BadMagic, UnsupportedVersion, HeaderField, WrongLength, RowField, IdOrder}
 use Rattle.sheet.specs.declared.watt_hours.Sum.the-variants.{Amount, Over}
 use Rattle.sheet.specs.Tests.{all}
 use Rattle.sheet.specs.Refusals.{firstRefusal}
-use Rattle.sheet.specs.Layout.{unitRow, rows, sheetOf}
+use Rattle.sheet.specs.Layout.{inBytes, unitRow, rows, sheetOf}
 use Rattle.sheet.specs.Check.{headerTests, rowTests, rowRules, sheetRules, checked}
 use Rattle.sheet.specs.WattHours.{plusWh}
-
--- ---- a sheet in bytes
-abbrev bytes16 : ℕ → List ℕ
-bytes16 x = x % 256 ∷ x / 256 ∷ []
-
-abbrev bytes32 : ℕ → List ℕ
-bytes32 x = bytes16 (x % 65536) ++ bytes16 (x / 65536)
-
-abbrev zeros : ℕ → List ℕ
-zeros n = replicate n 0
-
--- a row with KF 1,000; what isn't given is 0
-abbrev row : (id area reading : ℕ) → List ℕ
-row id area reading = bytes32 id ++ zeros 2 ++ bytes16 1000 ++ bytes32 area ++ zeros 8 ++ bytes32 reading ++ zeros 8
-
--- case A of document 01
-abbrev good : List ℕ
-good =
-    (72 ∷ 67 ∷ 83 ∷ 0 ∷ 1 ∷ 0 ∷ 1 ∷ 3 ∷ 3 ∷ 0 ∷ 0 ∷ 30 ∷ 20 ∷ 0 ∷ 30 ∷ 0 ∷ [])
-    ++ bytes32 1000000
-    ++ bytes32 10000
-    ++ zeros 24
-    ++ row 11 500 100
-    ++ row 12 500 300
-    ++ row 13 1000 600
-
--- the bytes with x at place `at`
-abbrev put : (at x : ℕ) → List ℕ → List ℕ
-put at x bytes = set bytes at x
+use Rattle.sheet.specs.Samples.{zeros, put, unitBytes, joined, sheetBytes, caseA}
 
 -- byte k of row i
 abbrev inRow : (i k : ℕ) → ℕ
@@ -57,76 +29,76 @@ bytes gives answer = record { bytes = bytes; answer = answer }
 
 abbrev cases : List Case
 cases =
-    (good gives Accepted)
-    ∷ (put (inRow 0 0) 0 good gives Accepted)  -- the first id may be 0
+    (caseA gives Accepted)
+    ∷ (put (inRow 0 0) 0 caseA gives Accepted)  -- the first id may be 0
     -- 1
     ∷ ([] gives Refused TooShort)
-    ∷ (take 47 good gives Refused TooShort)
+    ∷ (take 47 caseA gives Refused TooShort)
     -- 2
-    ∷ (put 0 0 good gives Refused BadMagic)
-    ∷ (put 3 1 good gives Refused BadMagic)
+    ∷ (put 0 0 caseA gives Refused BadMagic)
+    ∷ (put 3 1 caseA gives Refused BadMagic)
     -- 3
-    ∷ (put 4 2 good gives Refused UnsupportedVersion)
-    ∷ (put 5 1 good gives Refused UnsupportedVersion)
+    ∷ (put 4 2 caseA gives Refused UnsupportedVersion)
+    ∷ (put 5 1 caseA gives Refused UnsupportedVersion)
     -- 4
-    ∷ (put 6 0 good gives Refused HeaderField)  -- month
-    ∷ (put 6 13 good gives Refused HeaderField)
-    ∷ (put 7 0 good gives Refused HeaderField)  -- model
-    ∷ (put 7 6 good gives Refused HeaderField)
-    ∷ (put 8 0 good gives Refused HeaderField)  -- n
-    ∷ (put 8 161 good gives Refused HeaderField)
-    ∷ (put 10 4 good gives Refused HeaderField)  -- source
-    ∷ (put 11 19 good gives Refused HeaderField)  -- v
-    ∷ (put 11 31 good gives Refused HeaderField)
-    ∷ (put 12 51 good gives Refused HeaderField)  -- z
-    ∷ (put 13 1 good gives Refused HeaderField)  -- y
-    ∷ (put 14 24 good gives Refused HeaderField)  -- f
-    ∷ (put 14 36 good gives Refused HeaderField)
-    ∷ (put 15 1 good gives Refused HeaderField)  -- t
-    ∷ (put 19 255 good gives Refused HeaderField)  -- M
-    ∷ (put 22 2 good gives Refused HeaderField)  -- price
-    ∷ (put 24 1 good gives Refused HeaderField)  -- h1
-    ∷ (put 47 1 good gives Refused HeaderField)  -- h6
+    ∷ (put 6 0 caseA gives Refused HeaderField)  -- month
+    ∷ (put 6 13 caseA gives Refused HeaderField)
+    ∷ (put 7 0 caseA gives Refused HeaderField)  -- model
+    ∷ (put 7 6 caseA gives Refused HeaderField)
+    ∷ (put 8 0 caseA gives Refused HeaderField)  -- n
+    ∷ (put 8 161 caseA gives Refused HeaderField)
+    ∷ (put 10 4 caseA gives Refused HeaderField)  -- source
+    ∷ (put 11 19 caseA gives Refused HeaderField)  -- v
+    ∷ (put 11 31 caseA gives Refused HeaderField)
+    ∷ (put 12 51 caseA gives Refused HeaderField)  -- z
+    ∷ (put 13 1 caseA gives Refused HeaderField)  -- y
+    ∷ (put 14 24 caseA gives Refused HeaderField)  -- f
+    ∷ (put 14 36 caseA gives Refused HeaderField)
+    ∷ (put 15 1 caseA gives Refused HeaderField)  -- t
+    ∷ (put 19 255 caseA gives Refused HeaderField)  -- M
+    ∷ (put 22 2 caseA gives Refused HeaderField)  -- price
+    ∷ (put 24 1 caseA gives Refused HeaderField)  -- h1
+    ∷ (put 47 1 caseA gives Refused HeaderField)  -- h6
     -- 5
-    ∷ (take 48 good gives Refused WrongLength)
-    ∷ (take 143 good gives Refused WrongLength)
-    ∷ (good ++ zeros 1 gives Refused WrongLength)
-    ∷ (put 8 2 good gives Refused WrongLength)
+    ∷ (take 48 caseA gives Refused WrongLength)
+    ∷ (take 143 caseA gives Refused WrongLength)
+    ∷ (caseA ++ zeros 1 gives Refused WrongLength)
+    ∷ (put 8 2 caseA gives Refused WrongLength)
     -- 6
-    ∷ (put (inRow 0 4) 5 good gives Refused (RowField 0))  -- status
-    ∷ (put (inRow 1 4) 1 good gives Refused (RowField 1))  -- b of a unit that isn't read
-    ∷ (put (inRow 2 5) 1 good gives Refused (RowField 2))  -- water class without a source
-    ∷ (put (inRow 0 7) 0 (put (inRow 0 6) 0 good) gives Refused (RowField 0))  -- KF
-    ∷ (put (inRow 1 7) 4 good gives Refused (RowField 1))
-    ∷ (put (inRow 2 11) 1 good gives Refused (RowField 2))  -- p
-    ∷ (put (inRow 0 14) 1 good gives Refused (RowField 0))  -- s
-    ∷ (put (inRow 1 19) 1 good gives Refused (RowField 1))  -- q
-    ∷ (put (inRow 2 22) 1 good gives Refused (RowField 2))  -- b
-    ∷ (put (inRow 0 24) 1 good gives Refused (RowField 0))  -- litres
-    ∷ (put (inRow 1 28) 1 good gives Refused (RowField 1))  -- persons
-    ∷ (put (inRow 2 31) 1 good gives Refused (RowField 2))  -- the last two bytes
+    ∷ (put (inRow 0 4) 5 caseA gives Refused (RowField 0))  -- status
+    ∷ (put (inRow 1 4) 1 caseA gives Refused (RowField 1))  -- b of a unit that isn't read
+    ∷ (put (inRow 2 5) 1 caseA gives Refused (RowField 2))  -- water class without a source
+    ∷ (put (inRow 0 7) 0 (put (inRow 0 6) 0 caseA) gives Refused (RowField 0))  -- KF
+    ∷ (put (inRow 1 7) 4 caseA gives Refused (RowField 1))
+    ∷ (put (inRow 2 11) 1 caseA gives Refused (RowField 2))  -- p
+    ∷ (put (inRow 0 14) 1 caseA gives Refused (RowField 0))  -- s
+    ∷ (put (inRow 1 19) 1 caseA gives Refused (RowField 1))  -- q
+    ∷ (put (inRow 2 22) 1 caseA gives Refused (RowField 2))  -- b
+    ∷ (put (inRow 0 24) 1 caseA gives Refused (RowField 0))  -- litres
+    ∷ (put (inRow 1 28) 1 caseA gives Refused (RowField 1))  -- persons
+    ∷ (put (inRow 2 31) 1 caseA gives Refused (RowField 2))  -- the last two bytes
     -- 7
-    ∷ (put (inRow 1 0) 11 good gives Refused (IdOrder 1))
-    ∷ (put (inRow 2 0) 1 good gives Refused (IdOrder 2))
+    ∷ (put (inRow 1 0) 11 caseA gives Refused (IdOrder 1))
+    ∷ (put (inRow 2 0) 1 caseA gives Refused (IdOrder 2))
     -- two faults: the lower number
-    ∷ (put 0 0 (take 47 good) gives Refused TooShort)
-    ∷ (put 0 0 (put 4 2 good) gives Refused BadMagic)
-    ∷ (put 4 2 (put 6 0 good) gives Refused UnsupportedVersion)
-    ∷ (put 6 0 (take 143 good) gives Refused HeaderField)
-    ∷ (put (inRow 0 4) 5 (take 143 good) gives Refused WrongLength)
+    ∷ (put 0 0 (take 47 caseA) gives Refused TooShort)
+    ∷ (put 0 0 (put 4 2 caseA) gives Refused BadMagic)
+    ∷ (put 4 2 (put 6 0 caseA) gives Refused UnsupportedVersion)
+    ∷ (put 6 0 (take 143 caseA) gives Refused HeaderField)
+    ∷ (put (inRow 0 4) 5 (take 143 caseA) gives Refused WrongLength)
     -- 6 and 7 row by row
-    ∷ (put (inRow 1 0) 0 (put (inRow 2 4) 5 good) gives Refused (IdOrder 1))
-    ∷ (put (inRow 1 0) 0 (put (inRow 1 31) 1 good) gives Refused (RowField 1))
-    ∷ (put (inRow 1 4) 5 (put (inRow 2 0) 0 good) gives Refused (RowField 1))
+    ∷ (put (inRow 1 0) 0 (put (inRow 2 4) 5 caseA) gives Refused (IdOrder 1))
+    ∷ (put (inRow 1 0) 0 (put (inRow 1 31) 1 caseA) gives Refused (RowField 1))
+    ∷ (put (inRow 1 4) 5 (put (inRow 2 0) 0 caseA) gives Refused (RowField 1))
     ∷ []
 
 cases-right : map (λ (c : Case). checked 32 (c .bytes)) cases ≡ map (λ (c : Case). c .answer) cases
-unfolding all firstRefusal unitRow rows sheetOf headerTests rowTests rowRules sheetRules checked
+unfolding unitBytes joined sheetBytes inBytes all firstRefusal unitRow rows sheetOf headerTests rowTests rowRules sheetRules checked
 cases-right = refl
 
 -- 32 bytes more a unit, as in an archive record
-record-part : checked 64 (good ++ zeros 96) ≡ Accepted
-unfolding all firstRefusal unitRow rows sheetOf headerTests rowTests rowRules sheetRules checked
+record-part : checked 64 (caseA ++ zeros 96) ≡ Accepted
+unfolding unitBytes joined sheetBytes inBytes all firstRefusal unitRow rows sheetOf headerTests rowTests rowRules sheetRules checked
 record-part = refl
 
 -- amounts of Wh: the last one, and over

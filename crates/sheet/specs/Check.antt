@@ -114,11 +114,12 @@ rowRules s i before (u ∷ us) =
     ∷ (notAbove (u .id) before ⇒ IdOrder i)
     ∷ rowRules s (i + 1) (some (u .id)) us
 
-abbrev pub sameBytes : List ℕ → List ℕ → Bool
-sameBytes [] [] = true
-sameBytes [] (y ∷ ys) = false
-sameBytes (x ∷ xs) [] = false
-sameBytes (x ∷ xs) (y ∷ ys) = eqb x y && sameBytes xs ys
+-- two lists are the same, number by number
+abbrev pub sameList : List ℕ → List ℕ → Bool
+sameList [] [] = true
+sameList [] (y ∷ ys) = false
+sameList (x ∷ xs) [] = false
+sameList (x ∷ xs) (y ∷ ys) = eqb x y && sameList xs ys
 
 -- `HCS`, 0
 abbrev pub sheetMagic : List ℕ
@@ -129,7 +130,7 @@ unfoldable pub sheetRules : ℕ → List ℕ → List Rule
 sheetRules perUnit bytes =
     let s = sheetOf bytes in
     (ltb (length bytes) 48 ⇒ TooShort)
-    ∷ (not (sameBytes (s .magic) sheetMagic) ⇒ BadMagic)
+    ∷ (not (sameList (s .magic) sheetMagic) ⇒ BadMagic)
     ∷ (not (eqb (s .version) 1) ⇒ UnsupportedVersion)
     ∷ (not (all (headerTests s)) ⇒ HeaderField)
     ∷ (not (eqb (length bytes) (48 + perUnit * s .unitCount)) ⇒ WrongLength)

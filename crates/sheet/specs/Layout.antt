@@ -1,6 +1,6 @@
 -- The sheet, one building month in bytes (document 01, "The sheet"). Numbers are little-endian.
-use mathlib.Core.List.{List, [], _∷_, map}
-use Prim.Native.Nat.{ℕ, zero, suc, _+_, _*_}
+use mathlib.Core.List.{List, [], _∷_, _++_, map}
+use Prim.Native.Nat.{ℕ, zero, suc, _+_, _*_, _/_, _%_}
 use lib.ListN.{getD, take, drop}
 
 -- the number in one, two or four bytes from byte `at` on; 0 stands past the end
@@ -12,6 +12,17 @@ le16 bytes at = byte bytes at + 256 * byte bytes (at + 1)
 
 abbrev pub le32 : List ℕ → ℕ → ℕ
 le32 bytes at = byte bytes at + 256 * byte bytes (at + 1) + 65536 * byte bytes (at + 2) + 16777216 * byte bytes (at + 3)
+
+-- a number in two and in four bytes, and numbers in four bytes each
+abbrev pub bytes16 : ℕ → List ℕ
+bytes16 x = x % 256 ∷ x / 256 % 256 ∷ []
+
+abbrev pub bytes32 : ℕ → List ℕ
+bytes32 x = x % 256 ∷ x / 256 % 256 ∷ x / 65536 % 256 ∷ x / 16777216 % 256 ∷ []
+
+unfoldable pub inBytes : List ℕ → List ℕ
+inBytes [] = []
+inBytes (x ∷ xs) = bytes32 x ++ inBytes xs
 
 -- A unit row, 32 bytes: each field with its bytes and the document's symbol.
 pub record UnitRow : Type 0 where

@@ -7,4 +7,5 @@ pub mod Check
 pub mod FieldRanges
 pub mod Fits
 pub mod WattHours
+pub mod Samples
 pub mod Cases

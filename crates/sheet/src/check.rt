@@ -6,7 +6,7 @@ ghost use lib.ListN.{length, take};
 ghost use Rattle.sheet.specs.Refusals.{firstRefusal};
 ghost use Rattle.sheet.specs.Layout.{sheetOf};
 ghost use Rattle.sheet.specs.Fields.{unitOf, idBefore};
-ghost use Rattle.sheet.specs.Check.{checked, rowRules, notAbove, sameBytes, sheetMagic};
+ghost use Rattle.sheet.specs.Check.{checked, rowRules, notAbove, sameList, sheetMagic};
 use crate::bytes;
 use crate::header;
 use crate::header::header_field;
@@ -19,7 +19,7 @@ use crate::rows::unit_field;
 // 2: `HCS` and a zero.
 fn magic_fits(s: &[u8]) -> bool
     requires { ⌜ 4 ≤ length (now s) ⌝ }
-    ensures { λ r. ⌜ r ≡ sameBytes (take 4 (now (s .entry))) sheetMagic ⌝ }
+    ensures { λ r. ⌜ r ≡ sameList (take 4 (now (s .entry))) sheetMagic ⌝ }
 {
     if s[0] != 72 {
         return false;

@@ -11,7 +11,7 @@ use borrow.Author.Tests.{eq-eqb, ne-eqb}
 use lib.ListN.{length, getD, take, drop, List·getD-map}
 use Rattle.sheet.specs.Layout.{Sheet, unitRow}
 use Rattle.sheet.specs.Fields.{unitOf}
-use Rattle.sheet.specs.Check.{sameBytes}
+use Rattle.sheet.specs.Check.{sameList}
 use Rattle.yearbook.specs.LentBook.{unitCountIn, otherBuilding}
 
 -- ---- two lists are the same
@@ -22,22 +22,22 @@ and-swap false false t = refl
 
 -- one item more, as a loop compares them
 pub same-next : (i : ℕ) (xs ys : List ℕ) → i < length xs → i < length ys
-    → sameBytes (take (i + 1) xs) (take (i + 1) ys) ≡ (eqb (getD xs i 0) (getD ys i 0) && sameBytes (take i xs) (take i ys))
+    → sameList (take (i + 1) xs) (take (i + 1) ys) ≡ (eqb (getD xs i 0) (getD ys i 0) && sameList (take i xs) (take i ys))
 same-next i xs ys h k = rw add-one (go i xs ys h k)
   where
     go : (i : ℕ) (xs ys : List ℕ) → i < length xs → i < length ys
-        → sameBytes (take (suc i) xs) (take (suc i) ys) ≡ (eqb (getD xs i 0) (getD ys i 0) && sameBytes (take i xs) (take i ys))
+        → sameList (take (suc i) xs) (take (suc i) ys) ≡ (eqb (getD xs i 0) (getD ys i 0) && sameList (take i xs) (take i ys))
     go i [] ys h k = absurd (omega arith)
     go i (x ∷ xs) [] h k = absurd (omega arith)
     go zero (x ∷ xs) (y ∷ ys) h k = refl
     go (suc i) (x ∷ xs) (y ∷ ys) h k =
         ap (λ (t : Bool). eqb x y && t) (go i xs ys (omega arith) (omega arith))
-        ∙ and-swap (eqb x y) (eqb (getD xs i 0) (getD ys i 0)) (sameBytes (take i xs) (take i ys))
+        ∙ and-swap (eqb x y) (eqb (getD xs i 0) (getD ys i 0)) (sameList (take i xs) (take i ys))
 
-pub same-lists : (xs ys : List ℕ) → xs ≡ ys → sameBytes xs ys ≡ true
+pub same-lists : (xs ys : List ℕ) → xs ≡ ys → sameList xs ys ≡ true
 same-lists xs ys e = rw e (go ys)
   where
-    go : (l : List ℕ) → sameBytes l l ≡ true
+    go : (l : List ℕ) → sameList l l ≡ true
     go [] = refl
     go (x ∷ l) = rw (eq-eqb x x refl) (go l)
 
@@ -45,7 +45,7 @@ and-none : (t : Bool) → (t && false) ≡ false
 and-none true = refl
 and-none false = refl
 
-pub differ-at : (xs ys : List ℕ) (i : ℕ) → i < length xs → i < length ys → (getD xs i 0 ≡ getD ys i 0 → ⊥) → sameBytes xs ys ≡ false
+pub differ-at : (xs ys : List ℕ) (i : ℕ) → i < length xs → i < length ys → (getD xs i 0 ≡ getD ys i 0 → ⊥) → sameList xs ys ≡ false
 differ-at [] ys i h k d = absurd (omega arith)
 differ-at (x ∷ xs) [] i h k d = absurd (omega arith)
 differ-at (x ∷ xs) (y ∷ ys) zero h k d = rw (ne-eqb x y d)
@@ -57,7 +57,7 @@ eqb-sym x y = elim (ℕ-discrete x y) [
   | no d ↦ ne-eqb x y d ∙ sym (ne-eqb y x (λ e. d (sym e)))
 ]
 
-pub same-sym : (xs ys : List ℕ) → sameBytes xs ys ≡ sameBytes ys xs
+pub same-sym : (xs ys : List ℕ) → sameList xs ys ≡ sameList ys xs
 same-sym [] [] = refl
 same-sym [] (y ∷ ys) = refl
 same-sym (x ∷ xs) [] = refl
@@ -75,10 +75,10 @@ module _ (b : List ℕ) (s : Sheet) where
   other-count h = rw (ne-eqb (unitCountIn b) (s .unitCount) h)
 
   module _ (count : unitCountIn b ≡ s .unitCount) where
-    pub other-ids : sameBytes (take (s .unitCount) (drop 37 b)) (map (λ u. u .id) (s .units)) ≡ false → otherBuilding b s ≡ true
+    pub other-ids : sameList (take (s .unitCount) (drop 37 b)) (map (λ u. u .id) (s .units)) ≡ false → otherBuilding b s ≡ true
     unfolding otherBuilding
     other-ids e = rw (count, eq-eqb (s .unitCount) (s .unitCount) refl, e)
 
-    pub same-building : sameBytes (take (s .unitCount) (drop 37 b)) (map (λ u. u .id) (s .units)) ≡ true → otherBuilding b s ≡ false
+    pub same-building : sameList (take (s .unitCount) (drop 37 b)) (map (λ u. u .id) (s .units)) ≡ true → otherBuilding b s ≡ false
     unfolding otherBuilding
     same-building e = rw (count, eq-eqb (s .unitCount) (s .unitCount) refl, e)

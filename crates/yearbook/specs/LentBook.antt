@@ -13,7 +13,7 @@ use Rattle.sheet.specs.declared.refusal.Outcome.the-variants.{Accepted, Refused
 use Rattle.sheet.specs.Tests.{if_then_else_, any}
 use Rattle.sheet.specs.Refusals.{Rule, _⇒_, firstRefusal}
 use Rattle.sheet.specs.Layout.{Sheet, sheetOf}
-use Rattle.sheet.specs.Check.{sameBytes, sheetRules}
+use Rattle.sheet.specs.Check.{sameList, sheetRules}
 use Rattle.month.specs.Month.{billCents, statementOf, settleRules}
 use Rattle.month.specs.Laws.{sumTo}
 use Rattle.yearbook.specs.Calls.{Call, post, replace, withdraw, year, Reply, refused, totals, eight, replyOf}
@@ -56,7 +56,7 @@ badBook b = wrongLength b || ltb 160 (unitCountIn b) || any (map (ltb 1) (take 1
 
 -- 16: n or ids differ from the book's
 unfoldable pub otherBuilding : List ℕ → Sheet → Bool
-otherBuilding b s = not (eqb (unitCountIn b) (s .unitCount)) || not (sameBytes (idsIn b) (map (λ u. u .id) (s .units)))
+otherBuilding b s = not (eqb (unitCountIn b) (s .unitCount)) || not (sameList (idsIn b) (map (λ u. u .id) (s .units)))
 
 -- post and replace: 15, 1 to 12, 16, 17
 unfoldable pub sheetCallRules : List ℕ → List ℕ → (wrongMonth : Bool) → List Rule

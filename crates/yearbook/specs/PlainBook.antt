@@ -10,7 +10,7 @@ use Rattle.sheet.specs.declared.refusal.Refusal.{Refusal}
 use Rattle.sheet.specs.declared.refusal.Refusal.the-variants.{OtherBuilding, MonthState, NoSuchUnit}
 use Rattle.sheet.specs.Tests.{if_then_else_}
 use Rattle.sheet.specs.Layout.{sheetOf}
-use Rattle.sheet.specs.Check.{_to_, _within_, sameBytes}
+use Rattle.sheet.specs.Check.{_to_, _within_, sameList}
 use Rattle.month.specs.Month.{Month, Settled, settledSheet, statementOf}
 use Rattle.yearbook.specs.Calls.{Call, post, replace, withdraw, year, Reply, accepted, refused, totals, eight}
 
@@ -64,7 +64,7 @@ tell p k sums = record { reply = totals k sums; after = p }
 
 -- a sheet's n or ids aren't the kept ones
 unfoldable pub notKept : PlainBook → Month → Bool
-notKept p m = not (eqb (m .unitCount) (p .unitCount)) || not (sameBytes (m .ids) (p .ids))
+notKept p m = not (eqb (m .unitCount) (p .unitCount)) || not (sameList (m .ids) (p .ids))
 
 -- Post and replace bring a sheet. They are refused by 1 to 12, by 16 when its n or ids aren't the kept ones,
 -- and by 17 when its month stands (post) or doesn't (replace); otherwise its month now holds that sheet.

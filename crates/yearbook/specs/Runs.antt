@@ -1,13 +1,13 @@
 -- A computed run of the plain year book on small sheets, checked by hand. One table, one theorem.
 use mathlib.Core.Path.{_≡_, refl}
-use mathlib.Core.List.{List, [], _∷_, _++_, map}
-use Prim.Native.Nat.{ℕ, _/_, _%_}
-use lib.ListN.{length, replicate}
+use mathlib.Core.List.{List, [], _∷_, map}
+use Prim.Native.Nat.{ℕ}
 use Rattle.apportion.specs.Shares.{sharesBy}
 use Rattle.sheet.specs.Tests.{all, any}
 use Rattle.sheet.specs.Refusals.{numberOf, placeOf, firstRefusal}
-use Rattle.sheet.specs.Layout.{unitRow, rows, sheetOf}
+use Rattle.sheet.specs.Layout.{inBytes, unitRow, rows, sheetOf}
 use Rattle.sheet.specs.Check.{headerTests, rowTests, rowRules, sheetRules}
+use Rattle.sheet.specs.Samples.{zeros, unitBytes, joined, sheetBytes, heated}
 use Rattle.month.specs.Weights.{allMetered, meteredSum, hasPool, totalArea, unreadWeight, unreadWeights, poolWeight, readingSum, readArea, readSurface, areaWeight, surfaceWeight, readWeight, readWeights, unitsOfClass, litresByVolume, personsByPersons, waterWeight}
 use Rattle.month.specs.Steps.{splitBy, inUnitOrder, unitByUnit, hotWater, spaceHeat, heatParts, poolShares, readShares, heat, commonHeat, waterParts, water, commonWater, energies}
 use Rattle.month.specs.Month.{hotWaterWh, spaceHeatWh, zeroWaterDivisor, zeroDivisor, monthRules, billCents, costs, fourAndFour, statementOf, monthOf, settleRules, settledSheet}
@@ -15,44 +15,27 @@ use Rattle.yearbook.specs.Calls.{Call, post, replace, withdraw, year, Re
 use Rattle.yearbook.specs.PlainBook.{openedPlain, stands, sheetsOf, nowHolds, notKept, brought, withdrawn, numberIn, unitSums, told, called, plainReplies}
 
 -- ---- sheets in bytes
-abbrev bytes16 : ℕ → List ℕ
-bytes16 x = x % 256 ∷ x / 256 ∷ []
+-- a unit of heated area p; a sheet without hot water at a price of 10,000
+abbrev unit : (id p : ℕ) → List ℕ
+unit id p = heated id 0 1000 p 0
 
-abbrev zeros : ℕ → List ℕ
-zeros n = replicate n 0
-
-joined : List (List ℕ) → List ℕ
-joined [] = []
-joined (row ∷ rows) = row ++ joined rows
-
--- a row with KF 1,000 and no water
-row : (id status p b : ℕ) → List ℕ
-row id status p b = bytes16 id ++ zeros 2 ++ (status ∷ 0 ∷ bytes16 1000) ++ bytes16 p ++ zeros 10 ++ bytes16 b ++ zeros 10
-
--- a sheet without hot water at a price of 10,000
-sheet : (month model v f M : ℕ) → List (List ℕ) → List ℕ
-sheet month model v f M units =
-    (72 ∷ 67 ∷ 83 ∷ 0 ∷ 1 ∷ 0 ∷ month ∷ model ∷ bytes16 (length units))
-    ++ (0 ∷ v ∷ 0 ∷ 0 ∷ f ∷ 0 ∷ [])
-    ++ (bytes16 M ++ zeros 2)
-    ++ (bytes16 10000 ++ zeros 2)
-    ++ zeros 24
-    ++ joined units
+abbrev sheet : (month model v f M : ℕ) → List (List ℕ) → List ℕ
+sheet month model v f M units = sheetBytes month model 0 v 0 0 f 0 M 10000 (zeros 6) units
 
 -- model 2, a quarter and three quarters by p
 byArea : (month M : ℕ) → List ℕ
-byArea month M = sheet month 2 0 0 M (row 11 0 100 0 ∷ row 12 0 300 0 ∷ [])
+byArea month M = sheet month 2 0 0 M (unit 11 100 ∷ unit 12 300 ∷ [])
 
 -- case F of document 01
 overcharged : (month : ℕ) → List ℕ
-overcharged month = sheet month 3 30 31 1000 (row 11 1 500 0 ∷ row 12 0 1000 300 ∷ [])
+overcharged month = sheet month 3 30 31 1000 (heated 11 1 1000 500 0 ∷ heated 12 0 1000 1000 300 ∷ [])
 
 -- another n, another id
 oneUnit : List ℕ
-oneUnit = sheet 2 2 0 0 1000 (row 11 0 100 0 ∷ [])
+oneUnit = sheet 2 2 0 0 1000 (unit 11 100 ∷ [])
 
 otherId : List ℕ
-otherId = sheet 1 2 0 0 1000 (row 11 0 100 0 ∷ row 13 0 300 0 ∷ [])
+otherId = sheet 1 2 0 0 1000 (unit 11 100 ∷ unit 13 300 ∷ [])
 
 -- ---- a run: calls, and the answers expected
 data Answer : Type 0 where
@@ -93,7 +76,7 @@ run =
     ∷ post oneUnit gets refuses 16 0
     ∷ replace otherId gets refuses 16 0
     ∷ post otherId gets refuses 16 0  -- 16 before 17
-    ∷ post (sheet 1 2 0 0 1000 (row 12 0 100 0 ∷ row 11 0 300 0 ∷ [])) gets refuses 7 1
+    ∷ post (sheet 1 2 0 0 1000 (unit 12 100 ∷ unit 11 300 ∷ [])) gets refuses 7 1
     ∷ withdraw 1 gets accepts
     ∷ withdraw 1 gets refuses 17 0
     ∷ withdraw 0 gets refuses 17 0
@@ -105,7 +88,7 @@ run =
     ∷ []
 
 run-right : map answerOf (plainReplies (openedPlain (overcharged 6)) (map callOf run)) ≡ map expected run
-unfolding run joined row sheet byArea overcharged oneUnit otherId
+unfolding run byArea overcharged oneUnit otherId unitBytes joined sheetBytes inBytes
     openedPlain stands sheetsOf nowHolds notKept brought withdrawn numberIn unitSums told called plainReplies
     sharesBy all any firstRefusal unitRow rows sheetOf headerTests rowTests rowRules sheetRules
     allMetered meteredSum hasPool totalArea unreadWeight unreadWeights poolWeight readingSum readArea readSurface areaWeight surfaceWeight readWeight readWeights unitsOfClass litresByVolume personsByPersons waterWeight

@@ -5,7 +5,7 @@ ghost use mathlib.Core.List.{map};
 ghost use Prim.Native.Nat.{_+_};
 ghost use lib.ListN.{length, take, drop};
 ghost use Rattle.sheet.specs.Layout.{sheetOf};
-ghost use Rattle.sheet.specs.Check.{sameBytes};
+ghost use Rattle.sheet.specs.Check.{sameList};
 ghost use Rattle.yearbook.specs.Calls.{replyOf};
 ghost use Rattle.yearbook.specs.LentBook.{otherBuilding, Answered};
 ghost use Rattle.yearbook.specs.Code.{bringCall, wrongMark, HoldsRows, Brings};
@@ -18,7 +18,7 @@ use sheet::rows;
 // Whether the sheet's n ids are the book's.
 fn same_ids(book: &[u32], sheet: &[u8], n: usize) -> bool
     requires { ⌜ (length (now book) ≡ 15557) × HoldsRows (now sheet) n ⌝ }
-    ensures { λ r. ⌜ r ≡ sameBytes (take n (drop 37 (now (book .entry)))) (map (λ u. u .id) (sheetOf (now (sheet .entry)) .units)) ⌝ }
+    ensures { λ r. ⌜ r ≡ sameList (take n (drop 37 (now (book .entry)))) (map (λ u. u .id) (sheetOf (now (sheet .entry)) .units)) ⌝ }
 {
     for i in 0..n {
         if book[37 + i] != rows::unit_field(sheet, i, rows::ID) {

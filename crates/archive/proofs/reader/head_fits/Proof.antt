@@ -5,14 +5,14 @@ use Prim.Native.Nat.{_-_, _≤_}
 use native.Mathlib.Omega.{arith}
 use lib.ListN.{length, take, drop, drop-of-length-le}
 use lib.Seq.{getD-take, length-take-le}
-use Rattle.sheet.specs.Check.{sameBytes}
+use Rattle.sheet.specs.Check.{sameList}
 use Rattle.archive.specs.Record.{archiveHead}
 use Rattle.archive.proofs.Bytes.{same-more, same-fault}
 use Rattle.archive.proofs.reader.head_fits.Statement.{statement}
 use Rattle.archive.proofs.reader.head_fits.Tie as tie
 
 abbrev Inv-loop : tie.InvT-loop
-Inv-loop bytes i₀ i = (i ≤ 8) × (sameBytes (drop i (take 8 bytes)) (drop i archiveHead) ≡ sameBytes (take 8 bytes) archiveHead)
+Inv-loop bytes i₀ i = (i ≤ 8) × (sameList (drop i (take 8 bytes)) (drop i archiveHead) ≡ sameList (take 8 bytes) archiveHead)
 
 abbrev μ-loop : tie.MeasureT-loop
 μ-loop bytes i₀ i = 8 - i

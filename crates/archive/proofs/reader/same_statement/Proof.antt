@@ -5,15 +5,14 @@ use Prim.Native.Nat.{ℕ, _*_, _-_, _≤_, _<_}
 use native.Mathlib.Omega.{arith}
 use lib.ListN.{length, getD, take, drop, drop-of-length-le}
 use lib.Seq.{getD-take, length-take-le}
-use Rattle.sheet.specs.Layout.{byte}
-use Rattle.sheet.specs.Check.{sameBytes}
-use Rattle.archive.specs.Record.{inBytes}
+use Rattle.sheet.specs.Layout.{byte, inBytes}
+use Rattle.sheet.specs.Check.{sameList}
 use Rattle.archive.proofs.Bytes.{number-more, number-fault}
 use Rattle.archive.proofs.reader.same_statement.Statement.{statement}
 use Rattle.archive.proofs.reader.same_statement.Tie as tie
 
 abbrev Inv-loop : tie.InvT-loop
-Inv-loop bytes numbers count i₀ i = (i ≤ count) × (sameBytes (drop (4 * i) bytes) (inBytes (drop i (take count numbers))) ≡ sameBytes bytes (inBytes (take count numbers)))
+Inv-loop bytes numbers count i₀ i = (i ≤ count) × (sameList (drop (4 * i) bytes) (inBytes (drop i (take count numbers))) ≡ sameList bytes (inBytes (take count numbers)))
 
 abbrev μ-loop : tie.MeasureT-loop
 μ-loop bytes numbers count i₀ i = count - i

@@ -6,7 +6,7 @@ use native.Mathlib.Omega.{arith}
 use native.Mathlib.Numerals.{add-one}
 use lib.ListN.{length, take}
 use lib.Seq.{take-all, take-suc}
-use Rattle.archive.specs.Record.{inBytes}
+use Rattle.sheet.specs.Layout.{inBytes}
 use Rattle.archive.proofs.Bytes.{bytes-append}
 use Rattle.archive.proofs.writer.put_numbers.Statement.{statement}
 use Rattle.archive.proofs.writer.put_numbers.Tie as tie

@@ -9,7 +9,7 @@ use borrow.Author.Tests.{not-true, not-false}
 use lib.ListN.{length}
 use Rattle.sheet.specs.Tests.{all}
 use Rattle.sheet.specs.Layout.{sheetOf}
-use Rattle.sheet.specs.Check.{headerTests, sameBytes}
+use Rattle.sheet.specs.Check.{headerTests, sameList}
 use Rattle.sheet.proofs.Fits.{header-fits}
 use Rattle.sheet.proofs.Verdict.{too-short, bad-magic, bad-version, bad-header, bad-length, by-rows}
 use Rattle.sheet.proofs.check.check.Statement.{statement}
@@ -25,7 +25,7 @@ bytesOf c = S c .args .s .now
 long : (c : tie.Else2) → 48 ≤ length (bytesOf c)
 long c = c .before .before .if1 .left
 
-magic : (c : tie.Else2) → sameBytes (sheetOf (bytesOf c) .magic) (72 ∷ 67 ∷ 83 ∷ 0 ∷ []) ≡ true
+magic : (c : tie.Else2) → sameList (sheetOf (bytesOf c) .magic) (72 ∷ 67 ∷ 83 ∷ 0 ∷ []) ≡ true
 unfolding sheetOf
 magic c = sym (c .before .magic-fits .ensures) ∙ not-false _ (c .if2 .left)
 
