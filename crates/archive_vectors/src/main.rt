@@ -1,10 +1,9 @@
 // Reads records, each behind its length in 16 bits, and prints for each the refusal's number and place, or `0 0` where it is accepted, the length of the part handed back,
 // and 1 where the record written anew from that part is the same, else 0.
 ghost use mathlib.Core.Path.{_≡_};
-ghost use Prim.Native.Nat.{_≤_, _<_};
+ghost use Prim.Native.Nat.{_≤_};
 ghost use lib.ListN.{length};
 use libc::STDIN_FILENO;
-use libc::STDOUT_FILENO;
 use sheet::Outcome;
 
 // No stored record is longer.
@@ -13,30 +12,12 @@ const LONGEST: usize = 10_400;
 // 250,000 bytes hold no more records.
 const MOST_RECORDS: usize = 125_000;
 
-fn print_number(n: u64) {
-    io::print_decimal(STDOUT_FILENO, n);
-    io::write_all(STDOUT_FILENO, b" ");
-}
-
-fn print_outcome(outcome: Outcome) {
-    match outcome {
-        Outcome::Accepted => {
-            print_number(0);
-            print_number(0);
-        }
-        Outcome::Refused(r) => {
-            print_number(sheet::number(r) as u64);
-            print_number(sheet::place(r) as u64);
-        }
-    }
-}
-
 fn print_same(same: bool) {
     if same {
-        io::write_all(STDOUT_FILENO, b"1\n");
+        console::word(1);
         return;
     }
-    io::write_all(STDOUT_FILENO, b"0\n");
+    console::word(0);
 }
 
 fn same(a: &[u8], b: &[u8]) -> bool
@@ -70,25 +51,11 @@ fn writes_anew(sheet: &[u8], stored: &[u8]) -> bool
 fn print_answers(stored: &[u8])
     requires { ⌜ length (now stored) ≤ 10400 ⌝ }
 {
-    print_outcome(archive::check(stored));
+    console::answer(archive::check(stored));
     let part = archive::read(stored);
-    print_number(part.len() as u64);
+    console::word(part.len() as u64);
     print_same(writes_anew(part, stored));
-}
-
-fn wide(x: u8) -> usize
-    ensures { λ r. ⌜ r < 256 ⌝ }
-{
-    x as usize
-}
-
-// The next record's length, or more than LONGEST at the end of the input.
-fn next_length() -> usize {
-    let mut length = [0u8; 2];
-    if io::read_full(STDIN_FILENO, &mut length) < 2 {
-        return LONGEST + 1;
-    }
-    wide(length[0]) + 256 * wide(length[1])
+    console::newline();
 }
 
 // Reads a record as long as the buffer.
@@ -108,7 +75,7 @@ fn answer_next(length: usize)
 
 fn main() {
     for _ in 0..MOST_RECORDS {
-        let length = next_length();
+        let length = console::next16() as usize;
         if LONGEST < length {
             return;
         }

@@ -6,45 +6,39 @@ use sheet::Outcome;
 use sheet::Refusal;
 use sheet::rows;
 
-fn word(x: u32) {
-    io::write_all(STDOUT_FILENO, b" ");
-    io::print_decimal(STDOUT_FILENO, x as u64);
-}
-
-fn newline() {
-    io::write_all(STDOUT_FILENO, b"\n");
-}
-
 // `refused`, number, place.
 fn print_refusal(r: Refusal) {
-    io::write_all(STDOUT_FILENO, b"refused");
-    word(sheet::number(r));
-    word(sheet::place(r));
-    newline();
+    io::write_all(STDOUT_FILENO, b"refused ");
+    console::answer(Outcome::Refused(r));
+    console::newline();
 }
 
 // Month, n, M, bill.
 fn print_head(month: u32, count: u32, meter: u32, bill: u32) {
     io::write_all(STDOUT_FILENO, b"month");
-    word(month);
+    console::word(month as u64);
     io::write_all(STDOUT_FILENO, b" units");
-    word(count);
+    console::word(count as u64);
     io::write_all(STDOUT_FILENO, b" wh");
-    word(meter);
+    console::word(meter as u64);
     io::write_all(STDOUT_FILENO, b" cents");
-    word(bill);
-    newline();
+    console::word(bill as u64);
+    console::newline();
+}
+
+fn wide(x: u32) -> u64 {
+    x as u64
 }
 
 // Id, four Wh, four cents.
 fn print_unit(id: u32, numbers: &[u32]) {
-    io::print_decimal(STDOUT_FILENO, id as u64);
+    console::number(id as u64);
     let mut j = 0;
     while j < numbers.len() {
-        word(numbers[j]);
+        console::word(wide(numbers[j]));
         j += 1;
     }
-    newline();
+    console::newline();
 }
 
 fn print_row(sheet: &[u8], i: usize, numbers: &[u32])

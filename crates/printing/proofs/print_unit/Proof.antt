@@ -10,17 +10,20 @@ Inv-loop id numbers j₀ j = j ≤ length numbers
 abbrev μ-loop : tie.MeasureT-loop
 μ-loop id numbers j₀ j = length numbers - j
 
-print-decimal-requires : tie.Need-print-decimal-requires Inv-loop μ-loop
-print-decimal-requires c κs = search needs
+number-requires : tie.Need-number-requires Inv-loop μ-loop
+number-requires c κs = search needs
 
 loop-holds : tie.Need-loop-holds Inv-loop μ-loop
 loop-holds c = search needs
 
-mul-word : tie.Need-mul-word Inv-loop μ-loop
-mul-word c = search needs
+mul-wide : tie.Need-mul-wide Inv-loop μ-loop
+mul-wide c = search needs
 
-shared-slice-read-word : tie.Need-shared-slice-read-word Inv-loop μ-loop
-shared-slice-read-word c = search needs
+shared-slice-read-wide : tie.Need-shared-slice-read-wide Inv-loop μ-loop
+shared-slice-read-wide c = search needs
+
+wide-requires : tie.Need-wide-requires Inv-loop μ-loop
+wide-requires c κs = search needs
 
 word-requires : tie.Need-word-requires Inv-loop μ-loop
 word-requires c κs = search needs
@@ -46,10 +49,11 @@ print-unit-spec =
     (tie.spec
     Inv-loop
     μ-loop
-    print-decimal-requires
+    number-requires
     loop-holds
-    mul-word
-    shared-slice-read-word
+    mul-wide
+    shared-slice-read-wide
+    wide-requires
     word-requires
     add-j
     loop-less

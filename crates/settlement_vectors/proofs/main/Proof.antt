@@ -13,8 +13,11 @@ abbrev μ-loop : tie.MeasureT-loop
 loop-holds : tie.Need-loop-holds Inv-loop μ-loop
 loop-holds c = search needs
 
-next-length-requires : tie.Need-next-length-requires Inv-loop μ-loop
-next-length-requires c κs = search needs
+next16-requires : tie.Need-next16-requires Inv-loop μ-loop
+next16-requires c κs = search needs
+
+cast-length : tie.Need-cast-length Inv-loop μ-loop
+cast-length c = search needs
 
 returns : tie.Need-returns Inv-loop μ-loop
 returns c = search needs
@@ -41,7 +44,8 @@ main-spec =
     Inv-loop
     μ-loop
     loop-holds
-    next-length-requires
+    next16-requires
+    cast-length
     returns
     answer-next-requires
     add-counter

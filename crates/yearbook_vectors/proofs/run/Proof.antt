@@ -15,8 +15,8 @@ abbrev μ-loop : tie.MeasureT-loop
 loop-holds : tie.Need-loop-holds Inv-loop μ-loop
 loop-holds c = (omega arith, refl)
 
-next-kind-requires : tie.Need-next-kind-requires Inv-loop μ-loop
-next-kind-requires c κs = search needs
+next8-requires : tie.Need-next8-requires Inv-loop μ-loop
+next8-requires c κs = search needs
 
 same-length : tie.Need-same-length Inv-loop μ-loop
 same-length c = search needs
@@ -58,7 +58,7 @@ run-spec =
     Inv-loop
     μ-loop
     loop-holds
-    next-kind-requires
+    next8-requires
     same-length
     returns
     call-requires

@@ -1,8 +1,8 @@
 use Prim.Native.Nat.{_-_, _≤_, _<_}
 use borrow.Author.Needs.{needs}
 use lib.ListN.{length}
-use Rattle.settlement_vectors.proofs.digest.Statement.{statement}
-use Rattle.settlement_vectors.proofs.digest.Tie as tie
+use Rattle.console.proofs.digest.Statement.{statement}
+use Rattle.console.proofs.digest.Tie as tie
 
 abbrev Inv-loop : tie.InvT-loop
 Inv-loop list sum₀ i₀ sum i = (i ≤ length list) × (sum < 1000000007)
