@@ -1,4 +1,5 @@
 -- Computed cases, from the bytes on: A to L (document 01, "Cases for the proofs"), and small sheets of each model and water source and refusals 8 to 11, checked by hand.
+-- docs/REGULATION.md takes its figures from this table.
 use mathlib.Core.Path.{_≡_, refl}
 use mathlib.Core.List.{List, [], _∷_, _++_, map}
 use Prim.Native.Nat.{ℕ, zero, suc, _/_, _%_}
@@ -66,6 +67,10 @@ unitsD = heated 11 1 1000 500 0 ∷ heated 12 0 1000 500 300 ∷ heated 13 0 100
 -- p 500 without a device, p 1,000 read
 unitsE : List (List ℕ)
 unitsE = heated 11 1 1000 500 0 ∷ heated 12 0 1000 1000 300 ∷ []
+
+-- model 5, p 500 and 1,000 read, p 500 without a device
+partlyMetered : (f : ℕ) → List ℕ
+partlyMetered f = sheet 5 0 0 20 0 f 0 1000000 10000 (first 0) (heated 11 0 1000 500 100000 ∷ heated 12 0 1000 1000 300000 ∷ heated 13 1 1000 500 0 ∷ [])
 
 -- model 2, M 1,000, of which H 600 by a meter of its own
 waterSheet : (y : ℕ) → List (List ℕ) → List ℕ
@@ -177,6 +182,19 @@ casesByHand =
     gives numbers (20000 ∷ 17000 ∷ 100000 ∷ [])
     -- Model 3, unit 11 in status 3: a quarter of 800,000 by its p, whatever KF. A is 1,500: r 40.5 and 49.5 millions.
     ∷ heats (sheetA 30 (heated 11 3 500 500 0 ∷ heated 12 0 1000 500 300 ∷ heated 13 0 1000 1000 300 ∷ [])) gives numbers (200000 ∷ 270000 ∷ 330000 ∷ [])
+    -- C whole. Heat by 15, 2, 4 of 21: two Wh are left over, for units 13 and 11. Of the cents 5,714.29, 761.90, 1,523.81 are due: two left over, for 12 and 13.
+    ∷ answer (sheetA 30 (unitsA 1000 0 0))
+    gives settles 10000 (
+    571429 ∷ 50000 ∷ 0 ∷ 0 ∷ 5714 ∷ 500 ∷ 0 ∷ 0
+    ∷ 76190 ∷ 50000 ∷ 0 ∷ 0 ∷ 762 ∷ 500 ∷ 0 ∷ 0
+    ∷ 152381 ∷ 100000 ∷ 0 ∷ 0 ∷ 1524 ∷ 1000 ∷ 0 ∷ 0
+    ∷ []
+    )
+    -- D with unit 11 in status 2: a quarter by its p, though few units are faulty. In status 4: three quarters, as without a device.
+    ∷ heats (sheetA 30 (heated 11 2 1000 500 0 ∷ heated 12 0 1000 500 300 ∷ heated 13 0 1000 1000 600 ∷ [])) gives numbers (200000 ∷ 200000 ∷ 400000 ∷ [])
+    ∷ heats (sheetA 30 (heated 11 4 1000 500 0 ∷ heated 12 0 1000 500 300 ∷ heated 13 0 1000 1000 600 ∷ [])) gives numbers (600000 ∷ 66667 ∷ 133333 ∷ [])
+    -- D with KF 500 of unit 12: the pool of 200,000 by 1 and 4; unit 11 keeps its 600,000.
+    ∷ heats (sheetA 30 (heated 11 1 1000 500 0 ∷ heated 12 0 500 500 300 ∷ heated 13 0 1000 1000 600 ∷ [])) gives numbers (600000 ∷ 40000 ∷ 160000 ∷ [])
     -- Model 3, B = 0: by p × KF.
     ∷ heats (sheetA 30 (heated 11 0 1000 500 0 ∷ heated 12 0 500 1000 0 ∷ [])) gives numbers (400000 ∷ 400000 ∷ [])
     -- Model 3, M = 0: nothing by energies of sum 0.
@@ -187,6 +205,9 @@ casesByHand =
     -- Model 4, v 10, unit 11 without a device: three quarters by its p. S is 40, B 40: r 4,000, 80,000, 76,000.
     ∷ heats (sheet 4 0 10 0 0 30 0 3200 10000 (first 0) (unit 11 1 0 1000 100 40 0 0 0 0 ∷ unit 12 0 0 1000 100 10 0 0 0 0 ∷ unit 13 0 0 1000 100 20 0 20 0 0 ∷ unit 14 0 0 1000 100 10 0 20 0 0 ∷ []))
     gives numbers (2400 ∷ 20 ∷ 400 ∷ 380 ∷ [])
+    -- Model 4, s 100, 200, 300, unit 11 without a device: three quarters of 800,000 by its p, whatever s. S is 500, B 900: r 15.9 and 29.1 millions.
+    ∷ heats (sheet 4 0 30 20 0 30 0 1000000 10000 (first 0) (unit 11 1 0 1000 500 100 0 0 0 0 ∷ unit 12 0 0 1000 500 200 0 300 0 0 ∷ unit 13 0 0 1000 1000 300 0 600 0 0 ∷ []))
+    gives numbers (600000 ∷ 70667 ∷ 129333 ∷ [])
     -- Model 4, B = 0: by s × KF.
     ∷ heats (sheet 4 0 50 0 0 30 0 900 10000 (first 0) (unit 11 0 0 1000 100 10 0 0 0 0 ∷ unit 12 0 0 500 100 40 0 0 0 0 ∷ []))
     gives numbers (300 ∷ 600 ∷ [])
@@ -201,6 +222,10 @@ casesByHand =
     ∷ 300000 ∷ 50000 ∷ 0 ∷ 0 ∷ 3000 ∷ 500 ∷ 0 ∷ 0
     ∷ []
     )
+    -- Model 5, unit 13 without a device: three quarters of 800,000 by f 30, five eighths by f 25; the rest by b. 36 is out of f's range.
+    ∷ heats (partlyMetered 30) gives numbers (50000 ∷ 150000 ∷ 600000 ∷ [])
+    ∷ heats (partlyMetered 25) gives numbers (75000 ∷ 225000 ∷ 500000 ∷ [])
+    ∷ heats (partlyMetered 36) gives refuses 4 0
     -- No bytes.
     ∷ answer [] gives refuses 1 0
     -- 8: H 1,001 of M 1,000.
@@ -224,7 +249,7 @@ cases = casesAtoL ++ casesByHand
 
 pub all-cases : map given cases ≡ map expected cases
 unfolding cases casesAtoL casesByHand
-    all32 unit joined sheet sheetA unitsA unitsD unitsE waterSheet everyEighth whole answer monthA heats pool hotWaterOf billOf
+    all32 unit joined sheet sheetA unitsA unitsD unitsE partlyMetered waterSheet everyEighth whole answer monthA heats pool hotWaterOf billOf
     sharesBy all any firstRefusal unitRow rows sheetOf headerTests rowTests rowRules sheetRules
     allMetered meteredSum hasPool totalArea unreadWeight unreadWeights poolWeight readingSum readArea readSurface areaWeight surfaceWeight readWeight readWeights unitsOfClass litresByVolume personsByPersons waterWeight
     splitBy inUnitOrder unitByUnit hotWater spaceHeat heatParts poolShares readShares heat commonHeat waterParts water commonWater energies
