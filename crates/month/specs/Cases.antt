@@ -2,45 +2,22 @@
 -- docs/REGULATION.md takes its figures from this table.
 use mathlib.Core.Path.{_≡_, refl}
 use mathlib.Core.List.{List, [], _∷_, _++_, map}
-use Prim.Native.Nat.{ℕ, zero, suc, _/_, _%_}
-use lib.ListN.{length, getD, drop}
+use Prim.Native.Nat.{ℕ, zero, suc}
+use lib.ListN.{getD, drop}
 use Rattle.apportion.specs.Shares.{sharesBy, shares}
 use Rattle.sheet.specs.Tests.{all, any}
 use Rattle.sheet.specs.Refusals.{numberOf, placeOf, firstRefusal}
-use Rattle.sheet.specs.Layout.{unitRow, rows, sheetOf}
+use Rattle.sheet.specs.Layout.{inBytes, unitRow, rows, sheetOf}
 use Rattle.sheet.specs.Check.{headerTests, rowTests, rowRules, sheetRules}
+use Rattle.sheet.specs.Samples.{unitBytes, joined, sheetBytes, heated, sheetA, unitsA, caseA}
 use Rattle.month.specs.Weights.{allMetered, meteredSum, hasPool, totalArea, unreadWeight, unreadWeights, poolWeight, readingSum, readArea, readSurface, areaWeight, surfaceWeight, readWeight, readWeights, unitsOfClass, litresByVolume, personsByPersons, waterWeight}
 use Rattle.month.specs.Steps.{splitBy, inUnitOrder, unitByUnit, hotWater, spaceHeat, heatParts, poolShares, readShares, heat, commonHeat, waterParts, water, commonWater, energies}
 use Rattle.month.specs.Month.{hotWaterWh, spaceHeatWh, zeroWaterDivisor, zeroDivisor, monthRules, billCents, costs, fourAndFour, statementOf, Month, monthOf, Settled, refused, settled, settleRules, settledSheet}
 
 -- ---- sheets in bytes
-abbrev bytes16 : ℕ → List ℕ
-bytes16 x = x % 256 ∷ x / 256 ∷ []
-
-abbrev bytes32 : ℕ → List ℕ
-bytes32 x = x % 256 ∷ x / 256 % 256 ∷ x / 65536 % 256 ∷ x / 16777216 ∷ []
-
-all32 : List ℕ → List ℕ
-all32 [] = []
-all32 (x ∷ xs) = bytes32 x ++ all32 xs
-
--- a row in layout order
-unit : (id status class KF p s q b litres persons : ℕ) → List ℕ
-unit id status class KF p s q b litres persons =
-    bytes32 id ++ (status ∷ class ∷ bytes16 KF) ++ all32 (p ∷ s ∷ q ∷ b ∷ litres ∷ []) ++ bytes16 persons ++ (0 ∷ 0 ∷ [])
-
-joined : List (List ℕ) → List ℕ
-joined [] = []
-joined (row ∷ rows) = row ++ joined rows
-
--- a sheet of month 1 in layout order
-sheet : (model source v z y f t M price : ℕ) → List ℕ → List (List ℕ) → List ℕ
-sheet model source v z y f t M price readings units =
-    (72 ∷ 67 ∷ 83 ∷ 0 ∷ bytes16 1)
-    ++ (1 ∷ model ∷ bytes16 (length units))
-    ++ (source ∷ v ∷ z ∷ y ∷ f ∷ t ∷ [])
-    ++ all32 (M ∷ price ∷ readings)
-    ++ joined units
+-- a sheet of month 1
+abbrev sheet : (model source v z y f t M price : ℕ) → (readings : List ℕ) → (units : List (List ℕ)) → List ℕ
+sheet model source v z y f t M price readings units = sheetBytes 1 model source v z y f t M price readings units
 
 -- h1 with h2 .. h6 zero, and all six 1,000
 abbrev first : ℕ → List ℕ
@@ -49,18 +26,7 @@ first h1 = h1 ∷ 0 ∷ 0 ∷ 0 ∷ 0 ∷ 0 ∷ []
 abbrev six : List ℕ
 six = 1000 ∷ 1000 ∷ 1000 ∷ 1000 ∷ 1000 ∷ 1000 ∷ []
 
--- a unit of models 3 and 5 without water
-abbrev heated : (id status KF p b : ℕ) → List ℕ
-heated id status KF p b = unit id status 0 KF p 0 0 b 0 0
-
--- case A's header with f, and its units with b
-sheetA : (f : ℕ) → List (List ℕ) → List ℕ
-sheetA f units = sheet 3 0 30 20 0 f 0 1000000 10000 (first 0) units
-
-unitsA : (b₁ b₂ b₃ : ℕ) → List (List ℕ)
-unitsA b₁ b₂ b₃ = heated 11 0 1000 500 b₁ ∷ heated 12 0 1000 500 b₂ ∷ heated 13 0 1000 1000 b₃ ∷ []
-
--- the same, unit 11 without a device
+-- case A's units, unit 11 without a device
 unitsD : List (List ℕ)
 unitsD = heated 11 1 1000 500 0 ∷ heated 12 0 1000 500 300 ∷ heated 13 0 1000 1000 600 ∷ []
 
@@ -147,7 +113,7 @@ monthA = record {
 -- document 01's
 casesAtoL : List Case
 casesAtoL =
-    whole (sheetA 30 (unitsA 100 300 600)) gives settlesTo monthA  -- A
+    whole caseA gives settlesTo monthA  -- A
     ∷ heats (sheetA 30 (unitsA 0 400 600)) gives numbers (78049 ∷ 277073 ∷ 444878 ∷ [])  -- B
     ∷ heats (sheetA 30 (unitsA 1000 0 0)) gives numbers (571429 ∷ 76190 ∷ 152381 ∷ [])  -- C
     ∷ heats (sheetA 30 unitsD) gives numbers (600000 ∷ 66667 ∷ 133333 ∷ [])  -- D
@@ -166,10 +132,10 @@ casesAtoL =
 casesByHand : List Case
 casesByHand =
     -- Model 1, q 1,000 and 3,000. Of the ten cents 2.5 and 7.5 are due: the earlier gets the half.
-    answer (sheet 1 0 0 0 0 0 0 1000 10000 (first 0) (unit 11 0 0 1000 100 0 1000 0 0 0 ∷ unit 12 0 0 1000 100 0 3000 0 0 0 ∷ []))
+    answer (sheet 1 0 0 0 0 0 0 1000 10000 (first 0) (unitBytes 11 0 0 1000 100 0 1000 0 0 0 ∷ unitBytes 12 0 0 1000 100 0 3000 0 0 0 ∷ []))
     gives settles 10 (250 ∷ 0 ∷ 0 ∷ 0 ∷ 3 ∷ 0 ∷ 0 ∷ 0 ∷ 750 ∷ 0 ∷ 0 ∷ 0 ∷ 7 ∷ 0 ∷ 0 ∷ 0 ∷ [])
     -- Model 2 with both water classes: n1 2, n2 1, L 40, N2 4, so 480 Wh by 240, 80, 160; common water 120 Wh by 1, 3, 4; the fourth unit has no water.
-    ∷ answer (waterSheet 20 (unit 11 0 1 1000 50 0 0 0 30 1 ∷ unit 12 0 1 1000 50 0 0 0 10 3 ∷ unit 13 0 2 1000 100 0 0 0 0 4 ∷ unit 14 0 0 1000 200 0 0 0 0 0 ∷ []))
+    ∷ answer (waterSheet 20 (unitBytes 11 0 1 1000 50 0 0 0 30 1 ∷ unitBytes 12 0 1 1000 50 0 0 0 10 3 ∷ unitBytes 13 0 2 1000 100 0 0 0 0 4 ∷ unitBytes 14 0 0 1000 200 0 0 0 0 0 ∷ []))
     gives settles 10 (
     50 ∷ 0 ∷ 240 ∷ 15 ∷ 1 ∷ 0 ∷ 2 ∷ 0
     ∷ 50 ∷ 0 ∷ 80 ∷ 45 ∷ 0 ∷ 0 ∷ 1 ∷ 0
@@ -200,19 +166,19 @@ casesByHand =
     -- Model 3, M = 0: nothing by energies of sum 0.
     ∷ answer (sheet 3 0 30 20 0 30 0 0 10000 (first 0) (heated 11 0 1000 500 100 ∷ [])) gives settles 0 (0 ∷ 0 ∷ 0 ∷ 0 ∷ 0 ∷ 0 ∷ 0 ∷ 0 ∷ [])
     -- Model 4, v 50, z 10: r 80,000 each, KF 1,000 and 500. H by t 50 and ten litres is 810, by persons 2 and 1.
-    ∷ answer (sheet 4 2 50 10 0 30 50 1810 100000 (first 10) (unit 11 0 2 1000 100 10 0 30 0 2 ∷ unit 12 0 2 500 300 30 0 10 0 1 ∷ []))
+    ∷ answer (sheet 4 2 50 10 0 30 50 1810 100000 (first 10) (unitBytes 11 0 2 1000 100 10 0 30 0 2 ∷ unitBytes 12 0 2 500 300 30 0 10 0 1 ∷ []))
     gives settles 181 (600 ∷ 25 ∷ 540 ∷ 0 ∷ 60 ∷ 3 ∷ 54 ∷ 0 ∷ 300 ∷ 75 ∷ 270 ∷ 0 ∷ 30 ∷ 7 ∷ 27 ∷ 0 ∷ [])
     -- Model 4, v 10, unit 11 without a device: three quarters by its p. S is 40, B 40: r 4,000, 80,000, 76,000.
-    ∷ heats (sheet 4 0 10 0 0 30 0 3200 10000 (first 0) (unit 11 1 0 1000 100 40 0 0 0 0 ∷ unit 12 0 0 1000 100 10 0 0 0 0 ∷ unit 13 0 0 1000 100 20 0 20 0 0 ∷ unit 14 0 0 1000 100 10 0 20 0 0 ∷ []))
+    ∷ heats (sheet 4 0 10 0 0 30 0 3200 10000 (first 0) (unitBytes 11 1 0 1000 100 40 0 0 0 0 ∷ unitBytes 12 0 0 1000 100 10 0 0 0 0 ∷ unitBytes 13 0 0 1000 100 20 0 20 0 0 ∷ unitBytes 14 0 0 1000 100 10 0 20 0 0 ∷ []))
     gives numbers (2400 ∷ 20 ∷ 400 ∷ 380 ∷ [])
     -- Model 4, s 100, 200, 300, unit 11 without a device: three quarters of 800,000 by its p, whatever s. S is 500, B 900: r 15.9 and 29.1 millions.
-    ∷ heats (sheet 4 0 30 20 0 30 0 1000000 10000 (first 0) (unit 11 1 0 1000 500 100 0 0 0 0 ∷ unit 12 0 0 1000 500 200 0 300 0 0 ∷ unit 13 0 0 1000 1000 300 0 600 0 0 ∷ []))
+    ∷ heats (sheet 4 0 30 20 0 30 0 1000000 10000 (first 0) (unitBytes 11 1 0 1000 500 100 0 0 0 0 ∷ unitBytes 12 0 0 1000 500 200 0 300 0 0 ∷ unitBytes 13 0 0 1000 1000 300 0 600 0 0 ∷ []))
     gives numbers (600000 ∷ 70667 ∷ 129333 ∷ [])
     -- Model 4, B = 0: by s × KF.
-    ∷ heats (sheet 4 0 50 0 0 30 0 900 10000 (first 0) (unit 11 0 0 1000 100 10 0 0 0 0 ∷ unit 12 0 0 500 100 40 0 0 0 0 ∷ []))
+    ∷ heats (sheet 4 0 50 0 0 30 0 900 10000 (first 0) (unitBytes 11 0 0 1000 100 10 0 0 0 0 ∷ unitBytes 12 0 0 500 100 40 0 0 0 0 ∷ []))
     gives numbers (300 ∷ 600 ∷ [])
     -- Model 5, all read: C 800 of EG 1,000. H by six readings is 1,150, y 20; class 1 alone, by litres 3 and 2.
-    ∷ answer (sheet 5 3 0 0 20 30 0 2150 100000 six (unit 11 0 1 1000 100 0 0 300 3 1 ∷ unit 12 0 1 1000 300 0 0 500 2 1 ∷ []))
+    ∷ answer (sheet 5 3 0 0 20 30 0 2150 100000 six (unitBytes 11 0 1 1000 100 0 0 300 3 1 ∷ unitBytes 12 0 1 1000 300 0 0 500 2 1 ∷ []))
     gives settles 215 (300 ∷ 50 ∷ 552 ∷ 115 ∷ 30 ∷ 5 ∷ 55 ∷ 12 ∷ 500 ∷ 150 ∷ 368 ∷ 115 ∷ 50 ∷ 15 ∷ 37 ∷ 11 ∷ [])
     -- Model 5, unit 13 in status 4 with KF 500: three eighths of 800,000; the rest by b, whatever KF.
     ∷ answer (sheet 5 0 0 20 0 30 0 1000000 10000 (first 0) (heated 11 0 500 500 100000 ∷ heated 12 0 1000 1000 300000 ∷ heated 13 4 500 500 0 ∷ []))
@@ -229,19 +195,19 @@ casesByHand =
     -- No bytes.
     ∷ answer [] gives refuses 1 0
     -- 8: H 1,001 of M 1,000.
-    ∷ answer (sheet 2 1 0 0 0 0 0 1000 10000 (first 1001) (unit 11 0 1 1000 100 0 0 0 5 1 ∷ [])) gives refuses 8 0
+    ∷ answer (sheet 2 1 0 0 0 0 0 1000 10000 (first 1001) (unitBytes 11 0 1 1000 100 0 0 0 5 1 ∷ [])) gives refuses 8 0
     -- 9: n1 + n2 = 0; L = 0; N2 = 0; y > 0 and no persons; model 1 with all q 0; model 4 with S = 0.
-    ∷ answer (waterSheet 0 (unit 11 0 0 1000 100 0 0 0 0 0 ∷ [])) gives refuses 9 0
-    ∷ answer (waterSheet 0 (unit 11 0 1 1000 100 0 0 0 0 1 ∷ [])) gives refuses 9 0
-    ∷ answer (waterSheet 0 (unit 11 0 2 1000 100 0 0 0 0 0 ∷ [])) gives refuses 9 0
-    ∷ answer (waterSheet 20 (unit 11 0 1 1000 100 0 0 0 5 0 ∷ [])) gives refuses 9 0
-    ∷ answer (sheet 1 0 0 0 0 0 0 1000 10000 (first 0) (unit 11 0 0 1000 100 0 0 0 0 0 ∷ [])) gives refuses 9 0
-    ∷ answer (sheet 4 0 50 0 0 30 0 1000 10000 (first 0) (unit 11 0 0 1000 100 0 0 30 0 0 ∷ [])) gives refuses 9 0
+    ∷ answer (waterSheet 0 (unitBytes 11 0 0 1000 100 0 0 0 0 0 ∷ [])) gives refuses 9 0
+    ∷ answer (waterSheet 0 (unitBytes 11 0 1 1000 100 0 0 0 0 1 ∷ [])) gives refuses 9 0
+    ∷ answer (waterSheet 0 (unitBytes 11 0 2 1000 100 0 0 0 0 0 ∷ [])) gives refuses 9 0
+    ∷ answer (waterSheet 20 (unitBytes 11 0 1 1000 100 0 0 0 5 0 ∷ [])) gives refuses 9 0
+    ∷ answer (sheet 1 0 0 0 0 0 0 1000 10000 (first 0) (unitBytes 11 0 0 1000 100 0 0 0 0 0 ∷ [])) gives refuses 9 0
+    ∷ answer (sheet 4 0 50 0 0 30 0 1000 10000 (first 0) (unitBytes 11 0 0 1000 100 0 0 30 0 0 ∷ [])) gives refuses 9 0
     -- 10: nobody read.
     ∷ answer (sheetA 30 (heated 11 2 1000 500 0 ∷ [])) gives refuses 10 0
     -- 11: H by case I is 82, exactly 81.54; so of M 182 a C of 100 passes, 101 does not.
-    ∷ heats (sheet 5 2 0 0 0 30 51 182 10000 (first 1) (unit 11 0 1 1000 100 0 0 100 1 1 ∷ [])) gives numbers (100 ∷ [])
-    ∷ answer (sheet 5 2 0 0 0 30 51 182 10000 (first 1) (unit 11 0 1 1000 100 0 0 101 1 1 ∷ [])) gives refuses 11 0
+    ∷ heats (sheet 5 2 0 0 0 30 51 182 10000 (first 1) (unitBytes 11 0 1 1000 100 0 0 100 1 1 ∷ [])) gives numbers (100 ∷ [])
+    ∷ answer (sheet 5 2 0 0 0 30 51 182 10000 (first 1) (unitBytes 11 0 1 1000 100 0 0 101 1 1 ∷ [])) gives refuses 11 0
     ∷ []
 
 pub cases : List Case
@@ -249,7 +215,7 @@ cases = casesAtoL ++ casesByHand
 
 pub all-cases : map given cases ≡ map expected cases
 unfolding cases casesAtoL casesByHand
-    all32 unit joined sheet sheetA unitsA unitsD unitsE partlyMetered waterSheet everyEighth whole answer monthA heats pool hotWaterOf billOf
+    unitBytes joined sheetBytes inBytes unitsD unitsE partlyMetered waterSheet everyEighth whole answer monthA heats pool hotWaterOf billOf
     sharesBy all any firstRefusal unitRow rows sheetOf headerTests rowTests rowRules sheetRules
     allMetered meteredSum hasPool totalArea unreadWeight unreadWeights poolWeight readingSum readArea readSurface areaWeight surfaceWeight readWeight readWeights unitsOfClass litresByVolume personsByPersons waterWeight
     splitBy inUnitOrder unitByUnit hotWater spaceHeat heatParts poolShares readShares heat commonHeat waterParts water commonWater energies
