@@ -11,7 +11,7 @@ use Rattle.sheet.specs.Refusals.{numberOf, placeOf, firstRefusal}
 use Rattle.sheet.specs.Layout.{unitRow, rows, sheetOf, inBytes}
 use Rattle.sheet.specs.Check.{headerTests, rowTests, rowRules, sheetRules}
 use Rattle.sheet.specs.Samples.{zeros, put, unitBytes, joined, sheetBytes, caseA}
-use Rattle.month.specs.Weights.{allMetered, meteredSum, hasPool, totalArea, unreadWeight, unreadWeights, poolWeight, readingSum, readArea, readSurface, areaWeight, surfaceWeight, readWeight, readWeights, unitsOfClass, litresByVolume, personsByPersons, waterWeight}
+use Rattle.month.specs.Weights.{allMetered, meteredSum, hasPool, totalArea, unreadWeight, unreadWeights, poolWeight, readingSum, readArea, readSurface, areaWeight, surfaceWeight, readWeight, readWeights, unitsOfClass, litresOfClass1, personsOfClass2, waterWeight}
 use Rattle.month.specs.Steps.{splitBy, inUnitOrder, unitByUnit, hotWater, spaceHeat, heatParts, poolShares, readShares, heat, commonHeat, waterParts, water, commonWater, energies}
 use Rattle.month.specs.Month.{hotWaterWh, spaceHeatWh, zeroWaterDivisor, zeroDivisor, monthRules, billCents, costs, fourAndFour, statementOf, monthOf, settleRules, settledSheet}
 use Rattle.archive.specs.Record.{archiveRecord}
@@ -99,7 +99,7 @@ pub all-cases : map given cases ≡ map expected cases
 unfolding cases statementA recordA reads writes
     unitBytes joined sheetBytes inBytes archiveRecord bodyRules readRules readOutcome writeAnswer recordAfter
     sharesBy all any firstRefusal unitRow rows sheetOf headerTests rowTests rowRules sheetRules
-    allMetered meteredSum hasPool totalArea unreadWeight unreadWeights poolWeight readingSum readArea readSurface areaWeight surfaceWeight readWeight readWeights unitsOfClass litresByVolume personsByPersons waterWeight
+    allMetered meteredSum hasPool totalArea unreadWeight unreadWeights poolWeight readingSum readArea readSurface areaWeight surfaceWeight readWeight readWeights unitsOfClass litresOfClass1 personsOfClass2 waterWeight
     splitBy inUnitOrder unitByUnit hotWater spaceHeat heatParts poolShares readShares heat commonHeat waterParts water commonWater energies
     hotWaterWh spaceHeatWh zeroWaterDivisor zeroDivisor monthRules billCents costs fourAndFour statementOf monthOf settleRules settledSheet
 all-cases = refl

@@ -20,7 +20,7 @@ use Rattle.sheet.specs.Fits.{Each, UnitFits, Fits}
 use Rattle.sheet.proofs.Passed.{none-holds, holds-none, none-of-both, none-of}
 use Rattle.sheet.proofs.Fits.{fits}
 use Rattle.month.specs.Weights.{those, sumOf, isRead, readUnits, allMetered, meteredSum, hasPool, totalArea, unreadWeights, poolWeight, limited, areaWeight, surfaceWeight, readWeight, readWeights}
-use Rattle.month.specs.Weights.{readingSum, readArea, readSurface, unitsOfClass, litresByVolume, personsByPersons, waterWeight, commonWaterWeight}
+use Rattle.month.specs.Weights.{readingSum, readArea, readSurface, unitsOfClass, litresOfClass1, personsOfClass2, waterWeight, commonWaterWeight}
 use Rattle.month.specs.Month.{hotWaterWh, spaceHeatWh, zeroWaterDivisor, zeroDivisor, monthRules, settleRules}
 use Rattle.month.specs.Accepted.{CheckedSheet, AcceptedSheet}
 use Rattle.month.proofs.Lists.{decided, sum-append}
@@ -158,13 +158,13 @@ module _ (s : Sheet) (a : AcceptedSheet s) where
     unfolding zeroWaterDivisor
     some-class = omega (arith, eqb-false (unitsOfClass 1 s + unitsOfClass 2 s) 0 (none-of _ water-tests .0))
 
-    some-litres : 0 < unitsOfClass 1 s → 0 < litresByVolume s
+    some-litres : 0 < unitsOfClass 1 s → 0 < litresOfClass1 s
     unfolding zeroWaterDivisor
-    some-litres h = omega (arith, eqb-false (litresByVolume s) 0 (and-false (ltb 0 (unitsOfClass 1 s)) _ (none-of _ water-tests .1 .0) (lt-ltb 0 (unitsOfClass 1 s) h)))
+    some-litres h = omega (arith, eqb-false (litresOfClass1 s) 0 (and-false (ltb 0 (unitsOfClass 1 s)) _ (none-of _ water-tests .1 .0) (lt-ltb 0 (unitsOfClass 1 s) h)))
 
-    some-persons : 0 < unitsOfClass 2 s → 0 < personsByPersons s
+    some-persons : 0 < unitsOfClass 2 s → 0 < personsOfClass2 s
     unfolding zeroWaterDivisor
-    some-persons h = omega (arith, eqb-false (personsByPersons s) 0 (and-false (ltb 0 (unitsOfClass 2 s)) _ (none-of _ water-tests .1 .1 .0) (lt-ltb 0 (unitsOfClass 2 s) h)))
+    some-persons h = omega (arith, eqb-false (personsOfClass2 s) 0 (and-false (ltb 0 (unitsOfClass 2 s)) _ (none-of _ water-tests .1 .1 .0) (lt-ltb 0 (unitsOfClass 2 s) h)))
 
     pub common-water-positive : 0 < s .commonWaterPercent → 0 < sum (map commonWaterWeight (s .units))
     unfolding zeroWaterDivisor
@@ -178,7 +178,7 @@ module _ (s : Sheet) (a : AcceptedSheet s) where
         | inl f ↦ rw (e, f) (omega arith)
         | inr f ↦
             let p = some-persons (omega (arith, eqb-false (unitsOfClass 2 s) 0 f)) in
-            rw (e, f) (omega (arith, mul-le-mul-right (u .litres) h, grows (unitsOfClass 1 s * u .litres) (personsByPersons s) p))
+            rw (e, f) (omega (arith, mul-le-mul-right (u .litres) h, grows (unitsOfClass 1 s * u .litres) (personsOfClass2 s) p))
       ]
       | inr e ↦ rw e (omega arith)
     ]
@@ -194,7 +194,7 @@ module _ (s : Sheet) (a : AcceptedSheet s) where
     ]
 
     pub water-positive : 0 < sum (map (waterWeight s) (s .units))
-    unfolding litresByVolume personsByPersons
+    unfolding litresOfClass1 personsOfClass2
     water-positive = elim (decLt 0 (unitsOfClass 1 s)) [
       | yes h ↦ omega (
         arith,

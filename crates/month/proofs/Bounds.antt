@@ -12,7 +12,7 @@ use lib.ListN.{length, getD, take, length-take}
 use Rattle.apportion.specs.Shares.{sum}
 use Rattle.sheet.specs.Layout.{UnitRow, Sheet, waterReading}
 use Rattle.sheet.specs.Fits.{Each, UnitFits}
-use Rattle.month.specs.Weights.{those, sumOf, isRead, meteredSum, totalArea, unreadWeight, unreadWeights, poolWeight, readingSum, readArea, readSurface, limited, areaWeight, surfaceWeight, readWeight, readWeights, unitsOfClass, litresByVolume, personsByPersons, waterWeight, commonWaterWeight}
+use Rattle.month.specs.Weights.{those, sumOf, isRead, meteredSum, totalArea, unreadWeight, unreadWeights, poolWeight, readingSum, readArea, readSurface, limited, areaWeight, surfaceWeight, readWeight, readWeights, unitsOfClass, litresOfClass1, personsOfClass2, waterWeight, commonWaterWeight}
 use Rattle.month.specs.Steps.{hotWater}
 use Rattle.month.specs.Month.{hotWaterWh, billCents}
 use Rattle.month.specs.Accepted.{CheckedSheet}
@@ -82,7 +82,7 @@ module _ (s : Sheet) (c : CheckedSheet s) where
   ]
 
   pub sum-bounds : SumBounds s
-  unfolding totalArea readArea readSurface readingSum meteredSum unitsOfClass litresByVolume personsByPersons billCents
+  unfolding totalArea readArea readSurface readingSum meteredSum unitsOfClass litresOfClass1 personsOfClass2 billCents
   sum-bounds =
       let product : s .sharedMeter * s .price ≤ 400000000000000 = mul-le-mul (c .header .sharedMeter) (c .header .price) in
       record {
@@ -95,7 +95,7 @@ module _ (s : Sheet) (c : CheckedSheet s) where
         metered = over-all (λ u. u .reading) 25000000 (λ u h. h .reading);
         classes = λ k. omega (arith, those-fewer (λ u. eqb (u .waterClass) k) (s .units), few);
         litres = over-those (λ u. eqb (u .waterClass) 1) (λ u. u .litres) 1000000 (λ u h. h .litres);
-        persons-by-persons = over-those (λ u. eqb (u .waterClass) 2) (λ u. u .persons) 50 (λ u h. h .persons);
+        persons-of-class-2 = over-those (λ u. eqb (u .waterClass) 2) (λ u. u .persons) 50 (λ u h. h .persons);
         persons = over-all commonWaterWeight 50 common-water-le;
         litres-heated = litres-heated;
         summer-readings = summer-readings;
@@ -153,10 +153,10 @@ module _ (s : Sheet) (c : CheckedSheet s) where
       ]
     ]
 
-    by-litres : unitsOfClass 1 s * u .litres * personsByPersons s ≤ 1280000000000
-    by-litres = three-le (sum-bounds .classes 1) (h .litres) (sum-bounds .persons-by-persons)
+    by-litres : unitsOfClass 1 s * u .litres * personsOfClass2 s ≤ 1280000000000
+    by-litres = three-le (sum-bounds .classes 1) (h .litres) (sum-bounds .persons-of-class-2)
 
-    by-persons : unitsOfClass 2 s * u .persons * litresByVolume s ≤ 1280000000000
+    by-persons : unitsOfClass 2 s * u .persons * litresOfClass1 s ≤ 1280000000000
     by-persons = three-le (sum-bounds .classes 2) (h .persons) (sum-bounds .litres)
 
     water-le : waterWeight s u ≤ 1280000000000

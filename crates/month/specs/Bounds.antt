@@ -4,7 +4,7 @@ use mathlib.Core.List.{[], _∷_, _++_, map}
 use Prim.Native.Nat.{ℕ, _+_, _*_, _-_, _≤_, _<_}
 use Rattle.apportion.specs.Shares.{sum}
 use Rattle.sheet.specs.Layout.{UnitRow, Sheet, waterReading}
-use Rattle.month.specs.Weights.{sumOf, meteredSum, totalArea, unreadWeight, unreadWeights, poolWeight, readingSum, readArea, readSurface, areaWeight, surfaceWeight, readWeight, readWeights, unitsOfClass, litresByVolume, personsByPersons, waterWeight, commonWaterWeight}
+use Rattle.month.specs.Weights.{sumOf, meteredSum, totalArea, unreadWeight, unreadWeights, poolWeight, readingSum, readArea, readSurface, areaWeight, surfaceWeight, readWeight, readWeights, unitsOfClass, litresOfClass1, personsOfClass2, waterWeight, commonWaterWeight}
 use Rattle.month.specs.Month.{hotWaterWh, billCents}
 use Rattle.month.specs.Laws.{Division}
 
@@ -18,8 +18,8 @@ pub record SumBounds (s : Sheet) : Type 0 where
   pub impulses : s .model ≤ 4 → readingSum s ≤ 8000000
   pub metered : meteredSum s ≤ 4000000000  -- C
   pub classes : (c : ℕ) → unitsOfClass c s ≤ 160  -- n1, n2
-  pub litres : litresByVolume s ≤ 160000000  -- L
-  pub persons-by-persons : personsByPersons s ≤ 8000  -- N2
+  pub litres : litresOfClass1 s ≤ 160000000  -- L
+  pub persons-of-class-2 : personsOfClass2 s ≤ 8000  -- N2
   pub persons : sumOf commonWaterWeight (s .units) ≤ 8000
   -- H: the upper numbers of sources 2 and 3, and H rounded up
   pub litres-heated : s .waterSource ≡ 2 → (100 + s .lossFactor) * 54 * waterReading s 0 ≤ 324000000000
@@ -41,8 +41,8 @@ pub record UnitBounds (s : Sheet) (u : UnitRow) : Type 0 where
   pub surface-weight : s .model ≤ 4 → surfaceWeight s u ≤ 12800000000000000
   pub read : readWeight s u ≤ 24000000000000000
   -- step 6
-  pub by-litres : unitsOfClass 1 s * u .litres * personsByPersons s ≤ 1280000000000
-  pub by-persons : unitsOfClass 2 s * u .persons * litresByVolume s ≤ 1280000000000
+  pub by-litres : unitsOfClass 1 s * u .litres * personsOfClass2 s ≤ 1280000000000
+  pub by-persons : unitsOfClass 2 s * u .persons * litresOfClass1 s ≤ 1280000000000
   pub water : waterWeight s u ≤ 1280000000000
 
 -- the sums of weights of such a sheet

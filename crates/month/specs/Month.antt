@@ -13,7 +13,7 @@ use Rattle.sheet.specs.declared.refusal.Outcome.the-variants.{Accepted, Refused
 use Rattle.sheet.specs.Refusals.{Rule, _⇒_, firstRefusal}
 use Rattle.sheet.specs.Layout.{Sheet, sheetOf}
 use Rattle.sheet.specs.Check.{sheetRules}
-use Rattle.month.specs.Weights.{sumOf, readUnits, allMetered, meteredSum, hasPool, totalArea, unreadWeights, readSurface, unitsOfClass, litresByVolume, personsByPersons, commonWaterWeight}
+use Rattle.month.specs.Weights.{sumOf, readUnits, allMetered, meteredSum, hasPool, totalArea, unreadWeights, readSurface, unitsOfClass, litresOfClass1, personsOfClass2, commonWaterWeight}
 use Rattle.month.specs.Steps.{wholeWh, hotWater, spaceHeat, energies}
 
 -- ---- 8 to 12
@@ -28,8 +28,8 @@ spaceHeatWh s = spaceHeat wholeWh s
 unfoldable pub zeroWaterDivisor : Sheet → Bool
 zeroWaterDivisor s = any (
     eqb (unitsOfClass 1 s + unitsOfClass 2 s) 0
-    ∷ (ltb 0 (unitsOfClass 1 s) && eqb (litresByVolume s) 0)
-    ∷ (ltb 0 (unitsOfClass 2 s) && eqb (personsByPersons s) 0)
+    ∷ (ltb 0 (unitsOfClass 1 s) && eqb (litresOfClass1 s) 0)
+    ∷ (ltb 0 (unitsOfClass 2 s) && eqb (personsOfClass2 s) 0)
     ∷ (ltb 0 (s .commonWaterPercent) && eqb (sumOf commonWaterWeight (s .units)) 0)
     ∷ []
     )

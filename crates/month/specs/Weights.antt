@@ -107,18 +107,18 @@ unfoldable pub unitsOfClass : ℕ → Sheet → ℕ
 unitsOfClass c s = length (ofClass c s)
 
 -- L: litres of class 1
-unfoldable pub litresByVolume : Sheet → ℕ
-litresByVolume s = sumOf (λ u. u .litres) (ofClass 1 s)
+unfoldable pub litresOfClass1 : Sheet → ℕ
+litresOfClass1 s = sumOf (λ u. u .litres) (ofClass 1 s)
 
 -- N2: persons of class 2
-unfoldable pub personsByPersons : Sheet → ℕ
-personsByPersons s = sumOf (λ u. u .persons) (ofClass 2 s)
+unfoldable pub personsOfClass2 : Sheet → ℕ
+personsOfClass2 s = sumOf (λ u. u .persons) (ofClass 2 s)
 
 -- units' water (article 12): n1 × litres × N2 or n2 × persons × L; with one class only, litres or persons alone
 unfoldable pub waterWeight : Sheet → UnitRow → ℕ
 waterWeight s u =
-    if eqb (u .waterClass) 1 then (if eqb (unitsOfClass 2 s) 0 then u .litres else unitsOfClass 1 s * u .litres * personsByPersons s)
-    else if eqb (u .waterClass) 2 then (if eqb (unitsOfClass 1 s) 0 then u .persons else unitsOfClass 2 s * u .persons * litresByVolume s)
+    if eqb (u .waterClass) 1 then (if eqb (unitsOfClass 2 s) 0 then u .litres else unitsOfClass 1 s * u .litres * personsOfClass2 s)
+    else if eqb (u .waterClass) 2 then (if eqb (unitsOfClass 1 s) 0 then u .persons else unitsOfClass 2 s * u .persons * litresOfClass1 s)
     else 0
 
 -- common water (article 13): persons of classes 1 and 2

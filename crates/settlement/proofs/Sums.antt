@@ -9,7 +9,7 @@ use lib.Dec.{eqb}
 use lib.ListN.{length}
 use Rattle.sheet.specs.Layout.{UnitRow, Sheet}
 use Rattle.sheet.specs.Fits.{Each, UnitFits}
-use Rattle.month.specs.Weights.{those, sumOf, isRead, unreadWeight, totalArea, unreadWeights, readArea, readSurface, readingSum, unitsOfClass, litresByVolume, personsByPersons}
+use Rattle.month.specs.Weights.{those, sumOf, isRead, unreadWeight, totalArea, unreadWeights, readArea, readSurface, readingSum, unitsOfClass, litresOfClass1, personsOfClass2}
 use Rattle.month.proofs.Lists.{decided, sum-append}
 use Rattle.month.proofs.Accepted.{sum-those}
 use Rattle.month.proofs.Bounds.{sum-at-most, three-le}
@@ -24,7 +24,7 @@ pub record Sums (s : Sheet) (us : List UnitRow) (t : Totals) : Type 0 where
   pub class1 : t .class1 ≡ sumOf (λ u. ofUnit s u .class1) us
   pub class2 : t .class2 ≡ sumOf (λ u. ofUnit s u .class2) us
   pub litres : t .litres ≡ sumOf (λ u. ofUnit s u .litres) us
-  pub heads : t .heads ≡ sumOf (λ u. ofUnit s u .heads) us
+  pub persons2 : t .persons2 ≡ sumOf (λ u. ofUnit s u .persons2) us
   pub persons : t .persons ≡ sumOf (λ u. ofUnit s u .persons) us
   pub unread : t .unread ≡ sumOf (λ u. ofUnit s u .unread) us
   pub read : t .read ≡ sumOf (λ u. ofUnit s u .read) us
@@ -42,7 +42,7 @@ sums-next s us u t h = record {
   class1 = more (λ u. ofUnit s u .class1) us u (h .class1);
   class2 = more (λ u. ofUnit s u .class2) us u (h .class2);
   litres = more (λ u. ofUnit s u .litres) us u (h .litres);
-  heads = more (λ u. ofUnit s u .heads) us u (h .heads);
+  persons2 = more (λ u. ofUnit s u .persons2) us u (h .persons2);
   persons = more (λ u. ofUnit s u .persons) us u (h .persons);
   unread = more (λ u. ofUnit s u .unread) us u (h .unread);
   read = more (λ u. ofUnit s u .read) us u (h .read);
@@ -71,7 +71,7 @@ unit-within s u f h = record {
   class1 = only-le (eqb (u .waterClass) 1) (omega arith);
   class2 = only-le (eqb (u .waterClass) 2) (omega arith);
   litres = only-le (eqb (u .waterClass) 1) (h .litres);
-  heads = only-le (eqb (u .waterClass) 2) (h .persons);
+  persons2 = only-le (eqb (u .waterClass) 2) (h .persons);
   persons = only-le (eqb (u .waterClass) 1 || eqb (u .waterClass) 2) (h .persons);
   unread = only-le (not (isRead u)) (unread-le s u f h);
   read = only-le (isRead u) (omega arith);
@@ -91,7 +91,7 @@ module _ (s : Sheet) (us : List UnitRow) (f : s .unmeteredFactor ≤ 35) (h : Ea
     class1 = at-most (λ u. ofUnit s u .class1) 1 (λ u k. unit-within s u f k .class1) (e .class1);
     class2 = at-most (λ u. ofUnit s u .class2) 1 (λ u k. unit-within s u f k .class2) (e .class2);
     litres = at-most (λ u. ofUnit s u .litres) 1000000 (λ u k. unit-within s u f k .litres) (e .litres);
-    heads = at-most (λ u. ofUnit s u .heads) 50 (λ u k. unit-within s u f k .heads) (e .heads);
+    persons2 = at-most (λ u. ofUnit s u .persons2) 50 (λ u k. unit-within s u f k .persons2) (e .persons2);
     persons = at-most (λ u. ofUnit s u .persons) 50 (λ u k. unit-within s u f k .persons) (e .persons);
     unread = at-most (λ u. ofUnit s u .unread) 350000000 (λ u k. unit-within s u f k .unread) (e .unread);
     read = at-most (λ u. ofUnit s u .read) 1 (λ u k. unit-within s u f k .read) (e .read);
@@ -109,14 +109,14 @@ count-those p [] = refl
 count-those p (u ∷ us) = elim (decided (p u)) [ inl e ↦ rw e (omega (arith, count-those p us)) | inr e ↦ rw e (omega (arith, count-those p us)) ]
 
 pub totals-of : (s : Sheet) (t : Totals) → s .unmeteredFactor ≤ 35 → Each (UnitFits s) (s .units) → length (s .units) ≤ 160 → Sums s (s .units) t → TotalsOf s t
-unfolding totalArea unitsOfClass litresByVolume personsByPersons unreadWeights readArea readSurface readingSum
+unfolding totalArea unitsOfClass litresOfClass1 personsOfClass2 unreadWeights readArea readSurface readingSum
 totals-of s t f each few h = record {
   area = h .area;
   load = h .load;
   class1 = h .class1 ∙ sym (count-those (λ u. eqb (u .waterClass) 1) (s .units));
   class2 = h .class2 ∙ sym (count-those (λ u. eqb (u .waterClass) 2) (s .units));
   litres = h .litres ∙ sym (sum-those (λ u. eqb (u .waterClass) 1) (λ u. u .litres) (s .units));
-  heads = h .heads ∙ sym (sum-those (λ u. eqb (u .waterClass) 2) (λ u. u .persons) (s .units));
+  persons2 = h .persons2 ∙ sym (sum-those (λ u. eqb (u .waterClass) 2) (λ u. u .persons) (s .units));
   persons = h .persons;
   unread = h .unread ∙ sym (sum-those (λ u. not (isRead u)) (unreadWeight s) (s .units));
   read = h .read ∙ sym (count-those isRead (s .units));

@@ -24,11 +24,11 @@ use Rattle.settlement.specs.declared.totals.Totals.{Totals}
 module _ {s : Sheet} {t : Totals} (of : TotalsOf s t) where
   pub water-divisor : any (eqb (t .class1 + t .class2) 0
       ∷ (ltb 0 (t .class1) && eqb (t .litres) 0)
-      ∷ (ltb 0 (t .class2) && eqb (t .heads) 0)
+      ∷ (ltb 0 (t .class2) && eqb (t .persons2) 0)
       ∷ (ltb 0 (s .commonWaterPercent) && eqb (t .persons) 0)
       ∷ []) ≡ zeroWaterDivisor s
   unfolding zeroWaterDivisor
-  water-divisor = rw (of .class1, of .class2, of .litres, of .heads, of .persons)
+  water-divisor = rw (of .class1, of .class2, of .litres, of .persons2, of .persons)
 
   pub divisor : any ((ltb 0 (hotWaterWh s) && zeroWaterDivisor s) ∷ (eqb (s .model) 1 && eqb (t .load) 0) ∷ (eqb (s .model) 4 && eqb (t .surface) 0) ∷ []) ≡ zeroDivisor s
   unfolding zeroDivisor

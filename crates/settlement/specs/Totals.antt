@@ -7,7 +7,7 @@ use lib.ListN.{length}
 use Rattle.apportion.specs.Shares.{sum}
 use Rattle.sheet.specs.Tests.{if_then_else_}
 use Rattle.sheet.specs.Layout.{Sheet, UnitRow}
-use Rattle.month.specs.Weights.{sumOf, isRead, readUnits, unreadWeight, totalArea, unreadWeights, readArea, readSurface, readingSum, unitsOfClass, litresByVolume, personsByPersons, commonWaterWeight}
+use Rattle.month.specs.Weights.{sumOf, isRead, readUnits, unreadWeight, totalArea, unreadWeights, readArea, readSurface, readingSum, unitsOfClass, litresOfClass1, personsOfClass2, commonWaterWeight}
 use Rattle.settlement.specs.declared.totals.Totals.{Totals}
 
 abbrev pub onlyIf : Bool → ℕ → ℕ
@@ -21,7 +21,7 @@ ofUnit s u = record {
   class1 = onlyIf (eqb (u .waterClass) 1) 1;
   class2 = onlyIf (eqb (u .waterClass) 2) 1;
   litres = onlyIf (eqb (u .waterClass) 1) (u .litres);
-  heads = onlyIf (eqb (u .waterClass) 2) (u .persons);
+  persons2 = onlyIf (eqb (u .waterClass) 2) (u .persons);
   persons = commonWaterWeight u;
   unread = onlyIf (not (isRead u)) (unreadWeight s u);
   read = onlyIf (isRead u) 1;
@@ -37,7 +37,7 @@ plusTotals a b = record {
   class1 = a .class1 + b .class1;
   class2 = a .class2 + b .class2;
   litres = a .litres + b .litres;
-  heads = a .heads + b .heads;
+  persons2 = a .persons2 + b .persons2;
   persons = a .persons + b .persons;
   unread = a .unread + b .unread;
   read = a .read + b .read;
@@ -52,8 +52,8 @@ pub record TotalsOf (s : Sheet) (t : Totals) : Type 0 where
   pub load : t .load ≡ sumOf (λ u. u .heatLoad) (s .units)
   pub class1 : t .class1 ≡ unitsOfClass 1 s  -- n1
   pub class2 : t .class2 ≡ unitsOfClass 2 s  -- n2
-  pub litres : t .litres ≡ litresByVolume s  -- L
-  pub heads : t .heads ≡ personsByPersons s  -- N2
+  pub litres : t .litres ≡ litresOfClass1 s  -- L
+  pub persons2 : t .persons2 ≡ personsOfClass2 s  -- N2
   pub persons : t .persons ≡ sumOf commonWaterWeight (s .units)
   pub unread : t .unread ≡ sum (unreadWeights s)
   pub read : t .read ≡ length (readUnits s)
@@ -69,7 +69,7 @@ pub record Within (n : ℕ) (t : Totals) : Type 0 where
   pub class1 : t .class1 ≤ n * 1
   pub class2 : t .class2 ≤ n * 1
   pub litres : t .litres ≤ n * 1000000
-  pub heads : t .heads ≤ n * 50
+  pub persons2 : t .persons2 ≤ n * 50
   pub persons : t .persons ≤ n * 50
   pub unread : t .unread ≤ n * 350000000
   pub read : t .read ≤ n * 1

@@ -43,7 +43,7 @@ fn zero_water_divisor(s: &[u8], t: Totals) -> bool
     if lacks(t.class1, t.litres) {
         return true;
     }
-    if lacks(t.class2, t.heads) {
+    if lacks(t.class2, t.persons2) {
         return true;
     }
     lacks(head(s, header::COMMON_WATER_PERCENT), t.persons)

@@ -144,7 +144,7 @@ pub(crate) fn water_weight(s: &[u8], i: usize, t: Totals) -> u64
         if t.class2 == 0 {
             return litres;
         }
-        return t.class1 * litres * t.heads;
+        return t.class1 * litres * t.persons2;
     }
     if class == 2 {
         let persons = field(s, i, rows::PERSONS);

@@ -65,7 +65,7 @@ pub record Sheet : Type 0 where
   pub month : ℕ  -- 6
   pub model : ℕ  -- 7: 1 1EG; 2 2EG; 3 3EG-R-P; 4 3EG-R-V; 5 3EG-K
   pub unitCount : ℕ  -- 8–9: n
-  pub waterSource : ℕ  -- 10: hot water 0 none; 1 by a meter; 2 by litres; 3 by summer readings
+  pub waterSource : ℕ  -- 10: hot water 0 none; 1 by a meter; 2 by the cold water heated; 3 by summer readings
   pub basePercent : ℕ  -- 11: v
   pub commonHeatPercent : ℕ  -- 12: z
   pub commonWaterPercent : ℕ  -- 13: y
@@ -73,7 +73,7 @@ pub record Sheet : Type 0 where
   pub lossFactor : ℕ  -- 15: t, hundredths
   pub sharedMeter : ℕ  -- 16–19: M, Wh
   pub price : ℕ  -- 20–23: 0.00001 EUR per kWh
-  pub waterReadings : List ℕ  -- 24–47: h1 .. h6
+  pub waterReadings : List ℕ  -- 24–47: h1 .. h6, Wh; of source 2 h1 in litres
   pub units : List UnitRow  -- from 48 on
 
 -- h1 .. h6, from k = 0 on

@@ -15,7 +15,7 @@ use Rattle.sheet.proofs.Places.{place-rule, sheet-place}
 use Rattle.month.specs.Month.{monthRules, settleRules}
 use Rattle.month.proofs.Places.{month-place}
 use Rattle.yearbook.specs.Calls.{replyOf}
-use Rattle.yearbook.specs.LentBook.{unitCountIn, placeOfMonth, marked, wrongLength, badBook, otherBuilding, sheetCallRules, openAnswer, postAnswer, replaceAnswer, withdrawAnswer, yearOutcome}
+use Rattle.yearbook.specs.LentBook.{unitCountIn, placeOfMonth, marked, wrongSize, badBook, otherBuilding, sheetCallRules, openAnswer, postAnswer, replaceAnswer, withdrawAnswer, yearOutcome}
 
 nothing : PlaceBelow 160 (firstRefusal [])
 unfolding firstRefusal
@@ -24,7 +24,7 @@ nothing = tt
 pub open-place : (b sheet : List ℕ) → PlaceBelow 160 (openAnswer b sheet)
 unfolding openAnswer
 open-place b sheet =
-    place-rule 160 (wrongLength b) BadYearBook (sheetRules 32 sheet) (omega arith)
+    place-rule 160 (wrongSize b) BadYearBook (sheetRules 32 sheet) (omega arith)
     (λ _. subst (λ (rules : List Rule). PlaceBelow 160 (firstRefusal rules)) (append-nil (sheetRules 32 sheet)) (sheet-place 32 sheet [] nothing))
 
 bring-place : (b sheet : List ℕ) (wrong : Bool) → PlaceBelow 160 (firstRefusal (sheetCallRules b sheet wrong))

@@ -47,12 +47,12 @@ marked b i = eqb (getD b (markAt i) 0) 1
 
 -- ---- refusals
 -- 15: not 15,557 numbers
-abbrev pub wrongLength : List ℕ → Bool
-wrongLength b = not (eqb (length b) 15557)
+abbrev pub wrongSize : List ℕ → Bool
+wrongSize b = not (eqb (length b) 15557)
 
 -- except at opening, n over 160 or a mark over 1
 unfoldable pub badBook : List ℕ → Bool
-badBook b = wrongLength b || ltb 160 (unitCountIn b) || any (map (ltb 1) (take 12 (drop 1 b)))
+badBook b = wrongSize b || ltb 160 (unitCountIn b) || any (map (ltb 1) (take 12 (drop 1 b)))
 
 -- 16: n or ids differ from the book's
 unfoldable pub otherBuilding : List ℕ → Sheet → Bool
@@ -96,7 +96,7 @@ afterwards (Refused r) before written = before
 -- ---- the answers and the list afterwards
 -- open: 15 by the length alone, 1 to 7
 unfoldable pub openAnswer : List ℕ → List ℕ → Outcome
-openAnswer b sheet = firstRefusal ((wrongLength b ⇒ BadYearBook) ∷ sheetRules 32 sheet)
+openAnswer b sheet = firstRefusal ((wrongSize b ⇒ BadYearBook) ∷ sheetRules 32 sheet)
 
 unfoldable pub bookOpened : List ℕ → List ℕ → List ℕ
 bookOpened b sheet = afterwards (openAnswer b sheet) b (freshBook sheet)

@@ -20,7 +20,7 @@ add-t7 : tie.Need-add-t7
 add-t7 c = let p = c .before .before .before .before .before .before .before .before .before .before .pre in omega (arith, p .0 .litres, p .1 .litres)
 
 add-t8 : tie.Need-add-t8
-add-t8 c = let p = c .before .before .before .before .before .before .before .before .before .before .before .before .pre in omega (arith, p .0 .heads, p .1 .heads)
+add-t8 c = let p = c .before .before .before .before .before .before .before .before .before .before .before .before .pre in omega (arith, p .0 .persons2, p .1 .persons2)
 
 add-t9 : tie.Need-add-t9
 add-t9 c = let p = c .before .before .before .before .before .before .before .before .before .before .before .before .before .before .pre in omega (arith, p .0 .persons, p .1 .persons)

@@ -32,7 +32,7 @@ abbrev μ-loop : tie.MeasureT-loop
 loop-holds : tie.Need-loop-holds Inv-loop μ-loop
 loop-holds c = (
   omega arith,
-  record { area = refl; load = refl; class1 = refl; class2 = refl; litres = refl; heads = refl; persons = refl; unread = refl; read = refl; readarea = refl; surface = refl; readings = refl },
+  record { area = refl; load = refl; class1 = refl; class2 = refl; litres = refl; persons2 = refl; persons = refl; unread = refl; read = refl; readarea = refl; surface = refl; readings = refl },
 )
 
 of-row-requires : tie.Need-of-row-requires Inv-loop μ-loop

@@ -38,15 +38,15 @@ mul-result-2 c =
     let t = st .pre .1 in
     let u = unit-fits (st .pre .0) in
     let l : c .before .before .before .before .field2 .result ≤ 1000000 = omega (arith, c .before .before .before .before .field2 .ensures, u .litres) in
-    omega (arith, three-le (t .within .class1) l (t .within .heads))
+    omega (arith, three-le (t .within .class1) l (t .within .persons2))
 
 returns-2 : tie.Need-returns-2
 unfolding waterWeight
 returns-2 c =
     let st = c .before .before .before .before .before .before .before .before in
     let t = st .pre .1 .totals in
-    rw (eq-eqb _ 1 (sym (c .before .before .before .before .before .before .field .ensures) ∙ c .before .before .before .before .before .if1 .taken), ne-eqb _ 0 (λ z. c .before .before .if2 .left (t .class2 ∙ z)), sym (t .class1), sym (t .heads))
-    (ap (λ (x : ℕ). st .args .t .class1 * x * st .args .t .heads) (c .before .before .before .before .field2 .ensures))
+    rw (eq-eqb _ 1 (sym (c .before .before .before .before .before .before .field .ensures) ∙ c .before .before .before .before .before .if1 .taken), ne-eqb _ 0 (λ z. c .before .before .if2 .left (t .class2 ∙ z)), sym (t .class1), sym (t .persons2))
+    (ap (λ (x : ℕ). st .args .t .class1 * x * st .args .t .persons2) (c .before .before .before .before .field2 .ensures))
 
 field-requires-3 : tie.Need-field-requires-3
 field-requires-3 c κs = search needs
