@@ -48,7 +48,7 @@ fn print_row(sheet: &[u8], i: usize, numbers: &[u32])
     let end = at + 8;
     if end <= numbers.len() {
         print_unit(
-            rows::field_at(sheet, 48 + 32 * i, rows::ID),
+            rows::row_field(sheet, 48 + 32 * i, rows::ID),
             &numbers[at..end],
         );
     }

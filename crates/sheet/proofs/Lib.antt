@@ -4,5 +4,6 @@ pub mod Units
 pub mod Fits
 pub mod Verdict
 mod Fields
+mod View
 mod Walk
 pub mod Places

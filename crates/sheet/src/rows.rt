@@ -28,8 +28,14 @@ pub const PERSONS: usize = 9;
 
 pub const RESERVED: usize = 10;
 
+// A row is looked at through this view: the sheet's bytes, and where the row starts in them.
+pub struct RowView<'a> {
+    pub sheet: &'a [u8],
+    pub start: usize,
+}
+
 // Field k of the row at byte `at`; 0 where the row isn't wholly inside or has no field k.
-pub fn field_at(s: &[u8], at: usize, k: usize) -> u32
+fn field_at(s: &[u8], at: usize, k: usize) -> u32
     ensures { λ r. ⌜ r ≡ fieldAt (now (s .entry)) at k ⌝ }
 {
     if s.len() < 32 {
@@ -56,10 +62,31 @@ pub fn field_at(s: &[u8], at: usize, k: usize) -> u32
     0
 }
 
+// The row that starts at byte `start`.
+pub fn row_at<'a>(sheet: &'a [u8], start: usize) -> RowView<'a>
+    ensures { λ r. ⌜ (r .sheet ≡ sheet .entry) × (r .start ≡ start) ⌝ }
+{
+    RowView { sheet, start }
+}
+
+// Field k of a row.
+pub fn field<'a>(row: RowView<'a>, k: usize) -> u32
+    ensures { λ n. ⌜ n ≡ fieldAt (now (row .entry .sheet)) (row .entry .start) k ⌝ }
+{
+    field_at(row.sheet, row.start, k)
+}
+
+// The same of the row that starts at byte `start`: a caller that holds no view needs no walk by hand.
+pub fn row_field(s: &[u8], start: usize, k: usize) -> u32
+    ensures { λ r. ⌜ r ≡ fieldAt (now (s .entry)) start k ⌝ }
+{
+    field(row_at(s, start), k)
+}
+
 // Field k of unit i.
 pub fn unit_field(s: &[u8], i: usize, k: usize) -> u32
     requires { ⌜ (i < sheetOf (now s) .unitCount) × (80 + 32 * i ≤ length (now s)) ⌝ }
     ensures { λ r. ⌜ r ≡ rowField (unitOf (sheetOf (now (s .entry))) i) k ⌝ }
 {
-    field_at(s, 48 + 32 * i, k)
+    row_field(s, 48 + 32 * i, k)
 }
