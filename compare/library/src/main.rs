@@ -4,14 +4,21 @@
 //! - `compare ROUNDS SEED`: every call on random and damaged inputs, answers
 //!   and every element of every list, refused calls included;
 //! - `mutants ROUNDS SEED`: the same with each wrong reading of document 01 in
-//!   the place of the right one; each must be found.
+//!   the place of the right one; each must be found;
+//! - `bench SEED`: times beside those of the fast form;
+//! - `repeat SIDE UNITS MODEL TIMES`: forty fixed sheets settled by one side
+//!   only (`library`, `division`, `reciprocal`), for a count of instructions;
+//! - `stack`: the stack that each call needs.
 
+mod bench;
 mod books;
 mod calls;
 mod comparing;
 mod difference;
 mod inputs;
 mod mutants;
+mod repeat;
+mod stack;
 mod tally;
 
 use std::process::ExitCode;
@@ -50,8 +57,22 @@ fn main() -> ExitCode {
     let done = match words.first().map(String::as_str) {
         Some("compare") => compare(number(1, 100_000), number(2, 1)),
         Some("mutants") => mutants::run(number(1, 300_000), number(2, 1)),
+        Some("bench") => {
+            bench::run(number(1, 1));
+            true
+        }
+        Some("repeat") => {
+            let side = words.get(1).map_or("library", String::as_str);
+            repeat::run(
+                side,
+                number(2, 160) as usize,
+                number(3, 0) as u8,
+                number(4, 10),
+            )
+        }
+        Some("stack") => stack::measure(),
         _ => {
-            println!("usage: compare ROUNDS SEED | mutants ROUNDS SEED");
+            println!("usage: compare | mutants | bench | repeat | stack, and numbers");
             false
         }
     };
