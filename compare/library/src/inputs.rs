@@ -40,7 +40,7 @@ pub fn list_len(rng: &mut Rng, right: usize) -> usize {
 /// statement; then perhaps damaged.
 pub fn record_to_read(rng: &mut Rng, sheet: &[u8], written: Vec<u8>) -> Vec<u8> {
     let mut record = written;
-    if rng.once_in(3) {
+    if !record.starts_with(&HEAD) || rng.once_in(6) {
         record = [&HEAD, sheet].concat();
         let rows = sheet.len().saturating_sub(48);
         let statement = (0..rows).map(|_| rng.draw() as u8);

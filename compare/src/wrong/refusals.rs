@@ -50,7 +50,7 @@ pub fn without_water() -> bool {
 /// 10.
 pub fn no_readings(sheet: &Sheet) -> Option<bool> {
     let all_read = sheet.units.iter().all(is_read);
-    misread(UnreadOneMissing).then(|| sheet.header.model >= 3 && !all_read)
+    misread(UnreadOneMissing).then_some(sheet.header.model >= 3 && !all_read)
 }
 
 /// 11.

@@ -62,29 +62,29 @@ fn print_settle(name: &str, sheets: &[Vec<u8>]) {
     assert!(a == b && a == c, "the sides settle alike");
 }
 
-/// The sheet with the largest ratio among many, each measured shortly.
+/// The forty sheets with the largest ratios among many, each measured shortly.
 fn print_worst(seed: u64, count: usize) {
     let sheets = settled_sheets(seed + 1, 600, count, &[1, 2, 3, 4, 5]);
-    let mut list = vec![0; 8 * count];
-    let mut worst = (0.0, &sheets[0]);
-    for sheet in &sheets {
-        let (mut b, mut c) = (list.clone(), list.clone());
-        let mut library = || {
-            black_box(calls::settle(sheet, &mut list));
-        };
-        let mut division = || {
-            black_box(fast::settle::<false>(sheet, &mut b)).ok();
-        };
-        let mut reciprocal = || {
-            black_box(fast::settle::<true>(sheet, &mut c)).ok();
-        };
-        let mut sides = [&mut library as _, &mut division as _, &mut reciprocal as _];
-        let best = best_times(&mut sides, 5, Duration::from_micros(100));
-        let ratio = best[0] / best[1];
-        if ratio > worst.0 {
-            worst = (ratio, sheet);
-        }
-    }
-    let name = format!("n {count}, worst of 600 (model {})", worst.1[7]);
-    print_settle(&name, std::slice::from_ref(worst.1));
+    let mut ratios: Vec<(f64, &Vec<u8>)> = sheets
+        .iter()
+        .map(|sheet| (short_ratio(sheet), sheet))
+        .collect();
+    ratios.sort_by(|a, b| b.0.total_cmp(&a.0));
+    let worst: Vec<Vec<u8>> = ratios[..MANY].iter().map(|pair| pair.1.clone()).collect();
+    print_settle(&format!("n {count}, the worst {MANY} of 600"), &worst);
+}
+
+/// Library to fast form on one sheet.
+fn short_ratio(sheet: &[u8]) -> f64 {
+    let len = (sheet.len() - 48) / 4;
+    let (mut a, mut b) = (vec![0; len], vec![0; len]);
+    let mut library = || {
+        black_box(calls::settle(sheet, &mut a));
+    };
+    let mut division = || {
+        black_box(fast::settle::<false>(sheet, &mut b)).ok();
+    };
+    let mut sides = [&mut library as _, &mut division as _];
+    let best = best_times(&mut sides, 5, Duration::from_micros(100));
+    best[0] / best[1]
 }
