@@ -27,7 +27,9 @@
 //!   place, for a year call k and the sums, and the list as one number.
 //!
 //! All numbers in `stdin` are little-endian. `cargo test --release` runs the
-//! document's cases and the random checks.
+//! document's cases and the random checks. `compare/run` compares the library
+//! with this crate; `wrong` has the wrong readings that it must find, and
+//! `fast` the form that the library's times stand beside.
 
 pub mod apportion;
 pub mod book;
