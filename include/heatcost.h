@@ -1,14 +1,21 @@
 /* Heat cost settlement under NN 140/25. Link with the archive that `rt staticlib heatcost` writes.
  *
- * A list is a pointer and a count of its elements. Lists must not overlap. Nothing is allocated, and nothing is kept
- * between calls. An answer is 0 when the call is accepted, else number + 256 * place: the number of the refusal, and
- * the row from 0 for 6 and 7, else 0. A refused call leaves every lent list as it was.
+ * A list is a pointer and a count of its elements. Lists must not overlap. Nothing is kept between calls. An answer is
+ * 0 when the call is accepted, else number + 256 * place: the number of the refusal, and the row from 0 for 6 and 7,
+ * else 0. A refused call leaves every lent list as it was.
+ *
+ * No call uses the heap: memcpy and memset are all that the archive needs from outside (`nm -u`). HEATCOST_STACK bytes
+ * of stack are enough for every call. Settling and writing a record take 37,000 of them; reading a record, posting and
+ * replacing 32,000; opening, withdrawing and the year call 200. `compare/run stack` measures this on a painted stack;
+ * the frames in the archive add up to the same.
  */
 #ifndef HEATCOST_H
 #define HEATCOST_H
 
 #include <stddef.h>
 #include <stdint.h>
+
+#define HEATCOST_STACK 40960
 
 #ifdef __cplusplus
 extern "C" {

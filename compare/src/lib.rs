@@ -27,16 +27,21 @@
 //!   place, for a year call k and the sums, and the list as one number.
 //!
 //! All numbers in `stdin` are little-endian. `cargo test --release` runs the
-//! document's cases and the random checks.
+//! document's cases and the random checks. `compare/run` compares the library
+//! with this crate; `wrong` has the wrong readings that it must find, and
+//! `fast` the form that the library's times stand beside.
 
 pub mod apportion;
 pub mod book;
 pub mod calls;
 pub mod cases;
 pub mod damage;
+pub mod edges;
+pub mod fast;
 pub mod plain_book;
 pub mod portions;
 pub mod print;
+pub mod ranges;
 pub mod record;
 pub mod refusal;
 pub mod rng;
@@ -46,3 +51,4 @@ pub mod sheet;
 pub mod vectors;
 pub mod weights;
 pub mod whole;
+pub mod wrong;

@@ -1,5 +1,7 @@
 //! Document 01, "Refused sheets and calls": numbers and places.
 
+use crate::wrong;
+
 /// A refusal's number, and its place: the row for 6 and 7, else 0.
 #[derive(Clone, Copy, Debug, PartialEq, Eq)]
 pub struct Refusal {
@@ -46,13 +48,22 @@ pub const NO_SUCH_UNIT: u32 = 18;
 
 /// A refusal at place 0.
 pub fn refuse<T>(number: u32) -> Result<T, Refusal> {
-    refuse_at(number, 0)
+    Err(Refusal { number, place: 0 })
 }
 
 /// A refusal at the row `row`.
 pub fn refuse_at<T>(number: u32, row: usize) -> Result<T, Refusal> {
-    let place = row as u32;
+    let place = wrong::sheet::place(row).unwrap_or(row as u32);
     Err(Refusal { number, place })
+}
+
+/// The first test that holds refuses, with its number.
+pub fn refuse_first<const N: usize>(mut tests: [(u32, bool); N]) -> Result<(), Refusal> {
+    wrong::sheet::reorder(&mut tests);
+    match tests.iter().find(|(_, fault)| *fault) {
+        Some(&(number, _)) => refuse(number),
+        None => Ok(()),
+    }
 }
 
 /// `refuse(number)` when `fault` holds.

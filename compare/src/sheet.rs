@@ -1,6 +1,8 @@
 //! Document 01, "The sheet": layout, building from structs, refusals 1 to 7.
 
+use crate::ranges::Range;
 use crate::refusal::*;
+use crate::wrong::sheet as wrong;
 
 pub const HEADER_BYTES: usize = 48;
 pub const ROW_BYTES: usize = 32;
@@ -153,23 +155,32 @@ pub fn read_sheet(bytes: &[u8]) -> Sheet {
 /// with its statement behind it, as in an archive record.
 pub fn check(bytes: &[u8], unit_bytes: usize) -> Result<(), Refusal> {
     refuse_if(bytes.len() < HEADER_BYTES, TOO_SHORT)?;
-    refuse_if(bytes[0..4] != *b"HCS\0", BAD_MAGIC)?;
-    refuse_if(get_u16(bytes, 4) != 1, UNSUPPORTED_VERSION)?;
     let header = read_header(bytes);
-    refuse_if(!header_in_range(&header), HEADER_FIELD)?;
     let count = usize::from(header.unit_count);
-    refuse_if(
-        bytes.len() != HEADER_BYTES + unit_bytes * count,
-        WRONG_LENGTH,
-    )?;
+    let length = HEADER_BYTES + unit_bytes * count;
+    let length = wrong::length(bytes, unit_bytes, count).unwrap_or(length);
+    let mark_fits = bytes[0..4] == *b"HCS\0" || wrong::mark_passes(bytes);
+    let version_fits = get_u16(bytes, 4) == 1 || wrong::version_passes(bytes);
+    refuse_first([
+        (BAD_MAGIC, !mark_fits),
+        (UNSUPPORTED_VERSION, !version_fits),
+        (HEADER_FIELD, !header_in_range(&header)),
+        (WRONG_LENGTH, bytes.len() != length),
+    ])?;
+    check_rows(&read_sheet(bytes))
+}
 
+/// Refusals 6 and 7, row by row.
+fn check_rows(sheet: &Sheet) -> Result<(), Refusal> {
+    if let Some(answer) = wrong::check_rows(&sheet.header, &sheet.units) {
+        return answer;
+    }
     let mut id_before = None;
-    for row in 0..count {
-        let unit = read_unit(bytes, row);
-        if !unit_in_range(&header, &unit) {
+    for (row, unit) in sheet.units.iter().enumerate() {
+        if !unit_in_range(&sheet.header, unit) {
             return refuse_at(ROW_FIELD, row);
         }
-        if id_before.is_some_and(|before| unit.id <= before) {
+        if id_before.is_some_and(|before| unit.id <= before && !wrong::id_passes(unit.id, before)) {
             return refuse_at(ID_ORDER, row);
         }
         id_before = Some(unit.id);
@@ -179,63 +190,91 @@ pub fn check(bytes: &[u8], unit_bytes: usize) -> Result<(), Refusal> {
 
 /// Refusal 4's fields.
 fn header_in_range(header: &Header) -> bool {
-    (1..=12).contains(&header.month)
-        && (1..=5).contains(&header.model)
-        && (1..=160).contains(&header.unit_count)
-        && header.source <= 3
+    Range::Month.holds(header.month)
+        && Range::Model.holds(header.model)
+        && Range::UnitCount.holds(header.unit_count)
+        && Range::Source.holds(header.source)
         && percentages_in_range(header)
-        && header.shared_meter_wh <= MAX_WH
-        && header.price <= 100_000
+        && Range::SharedMeter.holds(header.shared_meter_wh)
+        && Range::Price.holds(header.price)
         && hot_water_inputs_in_range(header)
 }
 
 /// v, z, f by model; y, t by source.
 fn percentages_in_range(header: &Header) -> bool {
-    let (v, z, f) = match header.model {
-        1 | 2 => (0..=0, 0..=0, 0..=0),
-        3 => (20..=30, 0..=50, 25..=35),
-        4 => (0..=60, 0..=50, 25..=35),
-        _ => (0..=0, 0..=50, 25..=35),
+    let has_devices = header.model >= 3;
+    let base_percent = match header.model {
+        3 => Range::BasePercentModel3,
+        4 => Range::BasePercentModel4,
+        _ => Range::BasePercentElse,
     };
-    let y = if header.source == 0 { 0..=0 } else { 0..=50 };
-    let t = if header.source == 2 { 50..=200 } else { 0..=0 };
-    v.contains(&header.base_percent)
-        && z.contains(&header.common_heat_percent)
-        && y.contains(&header.common_water_percent)
-        && f.contains(&header.unmetered_factor)
-        && t.contains(&header.loss_factor)
+    let common_heat_percent = if has_devices {
+        Range::CommonHeatPercent
+    } else {
+        Range::CommonHeatPercentElse
+    };
+    let unmetered_factor = if has_devices {
+        Range::UnmeteredFactor
+    } else {
+        Range::UnmeteredFactorElse
+    };
+    let common_water_percent = match header.source {
+        0 => Range::CommonWaterPercentSource0,
+        _ => Range::CommonWaterPercent,
+    };
+    let loss_factor = match header.source {
+        2 => Range::LossFactor,
+        _ => Range::LossFactorElse,
+    };
+    base_percent.holds(header.base_percent)
+        && common_heat_percent.holds(header.common_heat_percent)
+        && common_water_percent.holds(header.common_water_percent)
+        && unmetered_factor.holds(header.unmetered_factor)
+        && loss_factor.holds(header.loss_factor)
 }
 
 fn hot_water_inputs_in_range(header: &Header) -> bool {
-    let (first_highest, later_highest) = match header.source {
-        0 => (0, 0),
-        1 => (MAX_WH, 0),
-        2 => (20_000_000, 0),
-        _ => (MAX_WH, MAX_WH),
+    let (first_range, later_range) = match header.source {
+        0 => (Range::FirstInputSource0, Range::LaterInputElse),
+        1 => (Range::FirstInputElse, Range::LaterInputElse),
+        2 => (Range::FirstInputSource2, Range::LaterInputElse),
+        _ => (Range::FirstInputElse, Range::LaterInputSource3),
     };
     let [first, later @ ..] = header.hot_water_inputs;
-    first <= first_highest && later.iter().all(|&input| input <= later_highest)
+    first_range.holds(first) && later.iter().all(|&input| later_range.holds(input))
 }
 
 /// Refusal 6's fields. Every id is in range by itself.
-fn unit_in_range(header: &Header, unit: &Unit) -> bool {
-    let highest_status = if header.model <= 2 { 0 } else { 4 };
-    let highest_class = if header.source == 0 { 0 } else { 2 };
-    let highest_reading = match (header.model, unit.status) {
-        (3 | 4, 0) => 50_000,
-        (5, 0) => 25_000_000,
-        _ => 0,
+pub fn unit_in_range(header: &Header, unit: &Unit) -> bool {
+    let status = match header.model {
+        1 | 2 => Range::StatusModels1And2,
+        _ => Range::StatusElse,
     };
-    let highest_litres = if unit.water_class == 1 { 1_000_000 } else { 0 };
-    let highest_persons = if unit.water_class == 0 { 0 } else { 50 };
-    unit.status <= highest_status
-        && unit.water_class <= highest_class
-        && (1..=1_000).contains(&unit.location_factor)
-        && (1..=10_000).contains(&unit.heated_area)
-        && unit.riser_surface <= 10_000
-        && unit.heat_load_w <= 100_000
-        && unit.reading <= highest_reading
-        && unit.litres <= highest_litres
-        && unit.persons <= highest_persons
-        && unit.reserved == 0
+    let water_class = match header.source {
+        0 => Range::WaterClassSource0,
+        _ => Range::WaterClassElse,
+    };
+    let reading = match (header.model, unit.status) {
+        (3 | 4, 0) => Range::ReadingModels3And4,
+        (5, 0) => Range::ReadingModel5,
+        _ => wrong::reading_range(header).unwrap_or(Range::ReadingElse),
+    };
+    let litres = match unit.water_class {
+        1 => Range::LitresClass1,
+        _ => wrong::litres_range(unit).unwrap_or(Range::LitresElse),
+    };
+    let persons = match unit.water_class {
+        0 => Range::PersonsClass0,
+        _ => Range::Persons,
+    };
+    status.holds(unit.status)
+        && water_class.holds(unit.water_class)
+        && Range::LocationFactor.holds(unit.location_factor)
+        && Range::HeatedArea.holds(unit.heated_area)
+        && Range::RiserSurface.holds(unit.riser_surface)
+        && Range::HeatLoad.holds(unit.heat_load_w)
+        && reading.holds(unit.reading)
+        && litres.holds(unit.litres)
+        && persons.holds(unit.persons)
+        && Range::Reserved.holds(unit.reserved)
 }

@@ -12,6 +12,14 @@ extern "C" {
     fn heatcost_year(book: *const u32, n: usize, place: u32, totals: *mut u64, m: usize) -> u32;
 }
 
+#[cfg(feature = "division")]
+#[rustfmt::skip]
+extern "C" {
+    fn division_apportion(
+        total: u64, weights: *const u64, n: usize, rests: *mut u64, m: usize, out: *mut u32, k: usize,
+    );
+}
+
 pub fn settle(sheet: &[u8], list: &mut [u32]) -> u32 {
     unsafe { heatcost_settle(sheet.as_ptr(), sheet.len(), list.as_mut_ptr(), list.len()) }
 }
@@ -52,6 +60,23 @@ pub fn year(book: &[u32], place: u32, totals: &mut [u64]) -> u32 {
             place,
             totals.as_mut_ptr(),
             totals.len(),
+        )
+    }
+}
+
+/// The division alone. The weights have a sum above 0.
+#[cfg(feature = "division")]
+pub fn divide(total: u64, weights: &[u64], rests: &mut [u64], out: &mut [u32]) {
+    assert!(rests.len() == weights.len() && out.len() == weights.len());
+    unsafe {
+        division_apportion(
+            total,
+            weights.as_ptr(),
+            weights.len(),
+            rests.as_mut_ptr(),
+            rests.len(),
+            out.as_mut_ptr(),
+            out.len(),
         )
     }
 }

@@ -1,0 +1,106 @@
+//! The check, the archive record and the year book.
+
+use super::cases::settled_sheets;
+use super::{print_pair, print_pair_head};
+use crate::calls;
+use compare::book::BOOK_LEN;
+use compare::fast;
+use std::hint::black_box;
+
+const MODELS: [u8; 5] = [1, 2, 3, 4, 5];
+
+pub fn run(seed: u64) {
+    print_pair_head("other calls");
+    for count in [160, 8] {
+        let sheets = settled_sheets(seed, 1, count, &MODELS);
+        check(count, &sheets[0]);
+        write(count, &sheets[0]);
+        read(count, &sheets[0]);
+        post(count, &sheets[0]);
+        year(count, &sheets[0]);
+    }
+}
+
+/// A check of all rows: opening refused at the last row's last field.
+fn check(count: usize, sheet: &[u8]) {
+    let mut sheet = sheet.to_vec();
+    *sheet.last_mut().expect("a row") = 1;
+    let [mut a, mut b] = [vec![0; BOOK_LEN], vec![0; BOOK_LEN]];
+    print_pair(
+        &format!("n {count}, check, refused at its end"),
+        &mut || {
+            black_box(calls::open(&mut a, black_box(&sheet)));
+        },
+        &mut || {
+            black_box(fast::book::open(&mut b, black_box(&sheet))).ok();
+        },
+    );
+}
+
+fn write(count: usize, sheet: &[u8]) {
+    let len = 56 + 64 * count;
+    let [mut a, mut b] = [vec![0; len], vec![0; len]];
+    print_pair(
+        &format!("n {count}, write a record"),
+        &mut || {
+            black_box(calls::write_record(black_box(sheet), &mut a));
+        },
+        &mut || {
+            black_box(fast::record::write(black_box(sheet), &mut b)).ok();
+        },
+    );
+}
+
+fn read(count: usize, sheet: &[u8]) {
+    let mut record = vec![0; 56 + 64 * count];
+    calls::write_record(sheet, &mut record);
+    print_pair(
+        &format!("n {count}, read a record"),
+        &mut || {
+            black_box(calls::read_record(black_box(&record)));
+        },
+        &mut || {
+            black_box(fast::record::read(black_box(&record))).ok();
+        },
+    );
+}
+
+/// Replacing a month does what posting does, as often as one likes.
+fn post(count: usize, sheet: &[u8]) {
+    let [mut a, mut b] = [vec![0; BOOK_LEN], vec![0; BOOK_LEN]];
+    for book in [&mut a, &mut b] {
+        calls::open(book, sheet);
+        calls::post(book, sheet);
+    }
+    print_pair(
+        &format!("n {count}, replace a month"),
+        &mut || {
+            black_box(calls::replace(&mut a, black_box(sheet)));
+        },
+        &mut || {
+            black_box(fast::book::replace(&mut b, black_box(sheet))).ok();
+        },
+    );
+}
+
+/// The last unit's year over twelve months.
+fn year(count: usize, sheet: &[u8]) {
+    let mut book = vec![0; BOOK_LEN];
+    let mut sheet = sheet.to_vec();
+    calls::open(&mut book, &sheet);
+    for month in 1..=12 {
+        sheet[6] = month;
+        calls::post(&mut book, &sheet);
+    }
+    let place = count as u32 - 1;
+    let mut totals = [0; 9];
+    print_pair(
+        &format!("n {count}, year of a unit"),
+        &mut || {
+            black_box(calls::year(black_box(&book), place, &mut totals));
+        },
+        &mut || {
+            black_box(fast::book::year(black_box(&book), place)).ok();
+        },
+    );
+}

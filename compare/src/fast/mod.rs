@@ -1,0 +1,21 @@
+//! A fast form of the calls, for the benchmarks: one pass over the rows checks
+//! and sums them, lists are fixed arrays, nothing is on the heap, and the
+//! largest remainders are selected without a sort.
+
+pub mod book;
+pub mod dividing;
+pub mod header;
+pub mod month;
+pub mod record;
+pub mod rows;
+
+use crate::refusal::{refuse_if, Refusal, BUFFER_LENGTH};
+use month::Month;
+
+/// Settles a sheet into a list of 8n numbers: refusals 1 to 13.
+pub fn settle<const RECIPROCAL: bool>(sheet: &[u8], statement: &mut [u32]) -> Result<(), Refusal> {
+    let month = Month::of(sheet, 32)?;
+    refuse_if(statement.len() != 8 * month.rows.len(), BUFFER_LENGTH)?;
+    month.write_statement::<RECIPROCAL>(statement);
+    Ok(())
+}

@@ -1,0 +1,213 @@
+//! Document 01, "The sheet": the ranges of the fields.
+
+use crate::sheet::MAX_WH;
+use crate::wrong::{self, End};
+
+/// A field's range, or one of its ranges where it hangs on model, source,
+/// status or water class.
+#[derive(Clone, Copy, Debug, PartialEq, Eq)]
+pub enum Range {
+    Month,
+    Model,
+    UnitCount,
+    Source,
+    /// v
+    BasePercentModel3,
+    BasePercentModel4,
+    BasePercentElse,
+    /// z
+    CommonHeatPercent,
+    CommonHeatPercentElse,
+    /// y
+    CommonWaterPercent,
+    CommonWaterPercentSource0,
+    /// f
+    UnmeteredFactor,
+    UnmeteredFactorElse,
+    /// t
+    LossFactor,
+    LossFactorElse,
+    /// M
+    SharedMeter,
+    Price,
+    /// h1
+    FirstInputSource0,
+    FirstInputSource2,
+    FirstInputElse,
+    /// h2 to h6
+    LaterInputSource3,
+    LaterInputElse,
+    StatusModels1And2,
+    StatusElse,
+    WaterClassSource0,
+    WaterClassElse,
+    /// KF
+    LocationFactor,
+    /// p
+    HeatedArea,
+    /// s
+    RiserSurface,
+    /// q
+    HeatLoad,
+    /// b
+    ReadingModels3And4,
+    ReadingModel5,
+    ReadingElse,
+    LitresClass1,
+    LitresElse,
+    Persons,
+    PersonsClass0,
+    /// A row's last two bytes.
+    Reserved,
+}
+
+use Range::*;
+
+/// A field by offset and size.
+pub enum Field {
+    Header(usize, usize),
+    Row(usize, usize),
+}
+
+impl Range {
+    pub const ALL: [Range; 38] = [
+        Month,
+        Model,
+        UnitCount,
+        Source,
+        BasePercentModel3,
+        BasePercentModel4,
+        BasePercentElse,
+        CommonHeatPercent,
+        CommonHeatPercentElse,
+        CommonWaterPercent,
+        CommonWaterPercentSource0,
+        UnmeteredFactor,
+        UnmeteredFactorElse,
+        LossFactor,
+        LossFactorElse,
+        SharedMeter,
+        Price,
+        FirstInputSource0,
+        FirstInputSource2,
+        FirstInputElse,
+        LaterInputSource3,
+        LaterInputElse,
+        StatusModels1And2,
+        StatusElse,
+        WaterClassSource0,
+        WaterClassElse,
+        LocationFactor,
+        HeatedArea,
+        RiserSurface,
+        HeatLoad,
+        ReadingModels3And4,
+        ReadingModel5,
+        ReadingElse,
+        LitresClass1,
+        LitresElse,
+        Persons,
+        PersonsClass0,
+        Reserved,
+    ];
+
+    /// Where the field lies: in the header or in a row, and how many bytes
+    /// it has.
+    pub fn field(self) -> Field {
+        match self {
+            Month => Field::Header(6, 1),
+            Model => Field::Header(7, 1),
+            UnitCount => Field::Header(8, 2),
+            Source => Field::Header(10, 1),
+            BasePercentModel3 | BasePercentModel4 | BasePercentElse => Field::Header(11, 1),
+            CommonHeatPercent | CommonHeatPercentElse => Field::Header(12, 1),
+            CommonWaterPercent | CommonWaterPercentSource0 => Field::Header(13, 1),
+            UnmeteredFactor | UnmeteredFactorElse => Field::Header(14, 1),
+            LossFactor | LossFactorElse => Field::Header(15, 1),
+            SharedMeter => Field::Header(16, 4),
+            Price => Field::Header(20, 4),
+            FirstInputSource0 | FirstInputSource2 | FirstInputElse => Field::Header(24, 4),
+            LaterInputSource3 | LaterInputElse => Field::Header(28, 4),
+            StatusModels1And2 | StatusElse => Field::Row(4, 1),
+            WaterClassSource0 | WaterClassElse => Field::Row(5, 1),
+            LocationFactor => Field::Row(6, 2),
+            HeatedArea => Field::Row(8, 4),
+            RiserSurface => Field::Row(12, 4),
+            HeatLoad => Field::Row(16, 4),
+            ReadingModels3And4 | ReadingModel5 | ReadingElse => Field::Row(20, 4),
+            LitresClass1 | LitresElse => Field::Row(24, 4),
+            Persons | PersonsClass0 => Field::Row(28, 2),
+            Reserved => Field::Row(30, 2),
+        }
+    }
+
+    /// Lowest and highest.
+    pub fn ends(self) -> (u32, u32) {
+        match self {
+            Month => (1, 12),
+            Model => (1, 5),
+            UnitCount => (1, 160),
+            Source => (0, 3),
+            BasePercentModel3 => (20, 30),
+            BasePercentModel4 => (0, 60),
+            CommonHeatPercent | CommonWaterPercent => (0, 50),
+            UnmeteredFactor => (25, 35),
+            LossFactor => (50, 200),
+            SharedMeter | FirstInputElse | LaterInputSource3 => (0, MAX_WH),
+            Price => (0, 100_000),
+            FirstInputSource2 => (0, 20_000_000),
+            StatusElse => (0, 4),
+            WaterClassElse => (0, 2),
+            LocationFactor => (1, 1_000),
+            HeatedArea => (1, 10_000),
+            RiserSurface => (0, 10_000),
+            HeatLoad => (0, 100_000),
+            ReadingModels3And4 => (0, 50_000),
+            ReadingModel5 => (0, 25_000_000),
+            LitresClass1 => (0, 1_000_000),
+            Persons => (0, 50),
+            BasePercentElse
+            | CommonHeatPercentElse
+            | CommonWaterPercentSource0
+            | UnmeteredFactorElse
+            | LossFactorElse
+            | FirstInputSource0
+            | LaterInputElse
+            | StatusModels1And2
+            | WaterClassSource0
+            | ReadingElse
+            | LitresElse
+            | PersonsClass0
+            | Reserved => (0, 0),
+        }
+    }
+
+    pub fn holds(self, value: impl Into<u32>) -> bool {
+        let (lowest, highest) = wrong::ends(self).unwrap_or(self.ends());
+        (lowest..=highest).contains(&value.into())
+    }
+
+    /// This range with one end off by one.
+    pub fn shifted(self, end: End) -> (u32, u32) {
+        let (lowest, highest) = self.ends();
+        match end {
+            End::LowestDown => (lowest - 1, highest),
+            End::LowestUp => (lowest + 1, highest),
+            End::HighestDown => (lowest, highest - 1),
+            End::HighestUp => (lowest, highest + 1),
+        }
+    }
+
+    /// The ends that can be off by one without leaving the range empty.
+    pub fn ends_to_shift(self) -> Vec<End> {
+        let (lowest, highest) = self.ends();
+        let mut ends = vec![End::HighestUp];
+        if lowest > 0 {
+            ends.push(End::LowestDown);
+        }
+        if lowest < highest {
+            ends.extend([End::LowestUp, End::HighestDown]);
+        }
+        ends
+    }
+}

@@ -1,0 +1,182 @@
+//! Wrong readings of steps 2 to 5.
+
+use super::{current, misread, Reading::*};
+use crate::apportion::apportion;
+use crate::sheet::{Sheet, Unit};
+use crate::weights::*;
+
+/// Step 2's exception.
+pub fn all_metered(sheet: &Sheet) -> Option<bool> {
+    match current()? {
+        MetersNever => Some(false),
+        MetersOfSomeUnits => Some(sheet.header.model == 5 && sheet.units.iter().any(is_read)),
+        _ => None,
+    }
+}
+
+/// Which of the two splits into units' and common part.
+#[derive(Clone, Copy)]
+pub enum Split {
+    Heat,
+    Water,
+}
+
+pub fn split(kind: Split, total: u64, percent: u64) -> Option<(u64, u64)> {
+    let divided = |first, second| {
+        let parts = apportion(total, &[first, second]);
+        (u64::from(parts[0]), u64::from(parts[1]))
+    };
+    let common = total * percent / 100;
+    match (current()?, kind) {
+        (HeatSplitSwapped, Split::Heat) | (WaterSplitSwapped, Split::Water) => {
+            Some(divided(percent, 100 - percent))
+        }
+        (HeatCommonFirst, Split::Heat) | (WaterCommonFirst, Split::Water) => {
+            let (common, units) = divided(percent, 100 - percent);
+            Some((units, common))
+        }
+        (HeatCommonDown, Split::Heat) | (WaterCommonDown, Split::Water) => {
+            Some((total - common, common))
+        }
+        _ => None,
+    }
+}
+
+/// Step 3: the weights of models 1 and 2.
+pub fn unmetered_model_weights(sheet: &Sheet) -> Option<Vec<u64>> {
+    match (current()?, sheet.header.model) {
+        (Model1ByArea, 1) => Some(column(sheet, heated_area)),
+        (Model2ByLoad, 2) => Some(column(sheet, heat_load)),
+        (Model2WithFactor, 2) => Some(column(sheet, factored_area)),
+        _ => None,
+    }
+}
+
+fn factored_area(unit: &Unit) -> u64 {
+    heated_area(unit) * location_factor(unit)
+}
+
+/// Step 3: the weight of a unit not read.
+pub fn unread_weight(sheet: &Sheet, unit: &Unit) -> Option<u64> {
+    let area = heated_area(unit);
+    let factor = location_factor(unit);
+    let unmetered = u64::from(sheet.header.unmetered_factor);
+    match (current()?, unit.status) {
+        (FaultWithFactor, 2 | 3) => Some(area * factor * 10),
+        (FaultAsNoDevice, 2 | 3) | (NextFaultAsNoDevice, 3) => Some(area * factor * unmetered),
+        (LaterFaultAsFault, 4) => Some(area * 10_000),
+        (NoDeviceWithoutFactor, 1 | 4) => Some(area * 1_000 * unmetered),
+        (NoDeviceByRiser, 1 | 4) if sheet.header.model == 4 => {
+            Some(riser_surface(unit) * factor * unmetered)
+        }
+        (NoDeviceByRiser, _) if sheet.header.model == 4 => Some(riser_surface(unit) * 10_000),
+        _ => None,
+    }
+}
+
+/// Step 3: the weight of all heat.
+pub fn whole_weight(sheet: &Sheet) -> Option<u64> {
+    match current()? {
+        AreaOfReadUnits => Some(10_000 * sum(read_units(sheet), heated_area)),
+        NoDeviceByRiser if sheet.header.model == 4 => {
+            Some(10_000 * sum(&sheet.units, riser_surface))
+        }
+        _ => None,
+    }
+}
+
+/// Step 3: the shares of the units not read and of the metered pool.
+pub fn pool_shares(unit_heat: u64, weights: &[u64]) -> Option<Vec<u32>> {
+    if !misread(RestFirst) {
+        return None;
+    }
+    let mut weights = weights.to_vec();
+    weights.rotate_right(1);
+    let mut shares = apportion(unit_heat, &weights);
+    shares.rotate_left(1);
+    Some(shares)
+}
+
+/// Step 4: the sum of p or s.
+pub fn basis_sum(sheet: &Sheet) -> Option<u64> {
+    match (current()?, sheet.header.model) {
+        (AreaOfAllUnits, 3) => Some(sum(&sheet.units, heated_area)),
+        (RiserOfAllUnits, 4) => Some(sum(&sheet.units, riser_surface)),
+        (BaseByArea, 4) => Some(sum(read_units(sheet), heated_area)),
+        (BaseByRiser, 3) => Some(sum(read_units(sheet), riser_surface)),
+        _ => None,
+    }
+}
+
+/// Step 4: the weight of a read unit. `r` is the unlimited one.
+pub fn read_weight(sheet: &Sheet, unit: &Unit, sums: ReadSums, r: u64) -> Option<u64> {
+    if sums.readings == 0 {
+        return no_reading_weight(sheet, unit);
+    }
+    let factor = location_factor(unit);
+    let reading = reading(unit);
+    let (area, riser) = (heated_area(unit), riser_surface(unit));
+    let base = u64::from(sheet.header.base_percent);
+    let part = |basis| (100 - base) * reading * sums.basis + base * basis * sums.readings;
+    let limited = |r: u64, basis: u64| {
+        r.min(300 * basis * sums.readings)
+            .max(40 * basis * sums.readings)
+    };
+    match (current()?, sheet.header.model) {
+        (LimitsWithoutFactor, 3) => Some(limited(r * factor, area)),
+        (LimitsAfterDividing | NoLimits, 3) => Some(r * factor),
+        (NoUpperLimit, 3) => Some(r.max(40 * area * sums.readings) * factor),
+        (NoLowerLimit, 3) => Some(r.min(300 * area * sums.readings) * factor),
+        (LimitsOfModel4, 4) => Some(limited(r, riser) * factor),
+        (BaseSwapped, 3) => {
+            let r = base * reading * sums.basis + (100 - base) * area * sums.readings;
+            Some(limited(r, area) * factor)
+        }
+        (BaseSwapped, 4) => {
+            let r = base * reading * sums.basis + (100 - base) * riser * sums.readings;
+            Some(r * factor)
+        }
+        (BaseByArea, 4) => Some(part(area) * factor),
+        (BaseByRiser, 3) => Some(limited(part(riser), area) * factor),
+        (ReadWithoutFactor, 3) => Some(limited(r, area)),
+        (ReadWithoutFactor, 4) => Some(r),
+        (Model5WithFactor, 5) => Some(reading * factor),
+        _ => None,
+    }
+}
+
+/// Step 4 with B = 0.
+fn no_reading_weight(sheet: &Sheet, unit: &Unit) -> Option<u64> {
+    match (current()?, sheet.header.model) {
+        (NoReadingEqual, _) | (NoReadingModel5Equal, 5) => Some(1),
+        (NoReadingWithoutFactor, 4) => Some(riser_surface(unit)),
+        (NoReadingWithoutFactor, _) => Some(heated_area(unit)),
+        (NoReadingByArea, 4) => Some(factored_area(unit)),
+        (NoReadingByRiser, 3) => Some(riser_surface(unit) * location_factor(unit)),
+        _ => None,
+    }
+}
+
+/// Step 4: the read units' shares, limited after the division.
+pub fn limit_shares(sheet: &Sheet, pool: u64, shares: &mut [u32]) {
+    if misread(LimitsAfterDividing) && sheet.header.model == 3 {
+        let by_area: Vec<u64> = read_units(sheet).map(factored_area).collect();
+        for (share, middle) in shares.iter_mut().zip(apportion(pool, &by_area)) {
+            let middle = u64::from(middle);
+            *share = u64::from(*share).min(3 * middle).max(2 * middle / 5) as u32;
+        }
+    }
+}
+
+/// Step 5.
+pub fn common_heat_weights(sheet: &Sheet) -> Option<Vec<u64>> {
+    let field: fn(&Unit) -> u64 = match (current()?, sheet.header.model) {
+        (CommonHeatByLoad, _) => heat_load,
+        (CommonHeatOfReadUnits, _) => |unit| if is_read(unit) { heated_area(unit) } else { 0 },
+        (CommonHeatWithFactor, _) => factored_area,
+        (CommonHeatByRiser, 4) => riser_surface,
+        (CommonHeatEqual, _) => |_| 1,
+        _ => return None,
+    };
+    Some(column(sheet, field))
+}

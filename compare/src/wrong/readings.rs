@@ -1,0 +1,232 @@
+//! The list of wrong readings.
+
+use super::End;
+use crate::ranges::Range;
+
+/// Declares the readings with their descriptions.
+macro_rules! readings {
+    ($($name:ident $text:literal,)*) => {
+        #[derive(Clone, Copy, Debug, PartialEq, Eq)]
+        pub enum Reading {
+            $($name,)*
+            /// A range with one end off by one.
+            Ends(Range, End),
+        }
+
+        const NAMED: &[(Reading, &str)] = &[$((Reading::$name, $text),)*];
+    };
+}
+
+readings! {
+    // "Dividing"
+    LeftoverToLast "the whole leftover to the last item",
+    LeftoverToFirst "the whole leftover to the first item",
+    LeftoverInOrder "the leftover to the first items, whatever their remainders",
+    LeftoverToLargestWeights "the leftover to the largest weights",
+    TiesToLater "ties to the later item",
+    TiesToLargerWeight "ties to the larger weight",
+    EachShareHalfUp "each share rounded half up, no leftover",
+    ProductIn64Bits "T x w cut to 64 bits",
+
+    // "The sheet"
+    EqualIds "equal ids allowed",
+    FirstIdAboveZero "the first id must be above 0",
+    MarkByte3 "byte 3 not tested",
+    VersionIn8Bits "only the version's lower byte tested",
+    LongerSheet "more bytes than 48 + 32n allowed",
+    ReadingOfUnread "b allowed when status is not 0",
+    LitresOfClass2 "litres allowed in class 2",
+
+    // Numbers and places
+    VersionBeforeMark "3 tested before 2",
+    HeaderBeforeVersion "4 tested before 3",
+    LengthBeforeHeader "5 tested before 4",
+    OrderBeforeRow "7 tested before 6",
+    RowsBeforeOrders "6 of all rows tested before 7",
+    RowFromOne "the row's place counted from 1",
+    PlaceAlwaysZero "6 and 7 without their row",
+    DivisorBeforeWater "9 tested before 8",
+    UnreadBeforeWater "10 tested before 8",
+    CalorimetersBeforeWater "11 tested before 8",
+    OverchargeBeforeWater "12 tested before 8",
+    UnreadBeforeDivisor "10 tested before 9",
+    CalorimetersBeforeDivisor "11 tested before 9",
+    OverchargeBeforeDivisor "12 tested before 9",
+    OverchargeBeforeUnread "12 tested before 10",
+    ListFirst "13 tested first",
+    LongerList "a list longer than 8n allowed",
+
+    // Refusals 8 to 12
+    WaterOfWholeMeter "8 also when H = M",
+    ClassZeroInDivisor "9: class 0 counted in n1 + n2",
+    NoLitres "9 without L = 0",
+    NoPersonsOfClass2 "9 without N2 = 0",
+    NoPersons "9 without y > 0 and no persons",
+    NoPersonsWithoutCommon "9 for no persons although y = 0",
+    DivisorWithoutWater "9's water tests also when H = 0",
+    LoadsWithoutHeat "9: all q 0 only when EG > 0",
+    LoadsOfEveryModel "9: all q 0 in every model",
+    RisersOfAllUnits "9: S over all units",
+    RisersWithReadings "9: S = 0 only when B > 0",
+    UnreadOneMissing "10 when one unit is not read",
+    CalorimetersEqual "11 also when C = EG",
+    CalorimetersOfMeter "11: C against M",
+    OverchargeAccepted "12 left out, the rest then 0",
+    RestOfZero "12 also when the rest's weight is 0",
+
+    // Steps 1 and 2
+    WaterRoundedDown "H rounded down",
+    WaterHalfUp "H rounded half up",
+    LossWithoutHundred "source 2: t x 54 x h1 / 100",
+    LossFromHundred "source 2: 100 - t",
+    LossLeftOut "source 2: t left out",
+    SummerWithoutFactor "source 3 without 1.15",
+    SummerSum "source 3: the sum, not its sixth",
+    SummerOfOneYear "source 3: the first three readings",
+    SummerMeanRounded "source 3: the mean rounded up before 1.15",
+    MetersNever "model 5 never by its readings",
+    MetersOfSomeUnits "step 2's exception when some unit is read",
+    HeatSplitSwapped "heat: the units get z, the common part 100 - z",
+    HeatCommonFirst "heat divided by (z, 100 - z), the common part first",
+    HeatCommonDown "heat: the common part rounded down, the units the rest",
+    WaterSplitSwapped "water: the units get y, the common part 100 - y",
+    WaterCommonFirst "water divided by (y, 100 - y), the common part first",
+    WaterCommonDown "water: the common part rounded down, the units the rest",
+
+    // Step 3
+    Model1ByArea "model 1 by p",
+    Model2ByLoad "model 2 by q",
+    Model2WithFactor "model 2 by p x KF",
+    FaultWithFactor "status 2, 3 with KF",
+    FaultAsNoDevice "status 2, 3 like 1, 4",
+    NextFaultAsNoDevice "status 3 like 4",
+    LaterFaultAsFault "status 4 like 2, 3",
+    NoDeviceWithoutFactor "status 1, 4 without KF",
+    NoDeviceByRiser "model 4: not read units by s",
+    AreaOfReadUnits "P over read units",
+    RestFirst "the rest is the first item",
+
+    // Step 4
+    LimitsWithoutFactor "limits without KF on r x KF",
+    LimitsAfterDividing "normalised before the limits",
+    NoLimits "model 3 without limits",
+    NoUpperLimit "model 3 without 300 x p x B",
+    NoLowerLimit "model 3 without 40 x p x B",
+    LimitsOfModel4 "model 4 with limits by s",
+    AreaOfAllUnits "A over all units",
+    RiserOfAllUnits "S over all units",
+    BaseSwapped "v and 100 - v exchanged",
+    BaseByArea "model 4: base by p",
+    BaseByRiser "model 3: base by s",
+    ReadWithoutFactor "read units without KF",
+    Model5WithFactor "model 5: b x KF",
+    NoReadingEqual "B = 0: equal parts",
+    NoReadingWithoutFactor "B = 0: p or s without KF",
+    NoReadingByArea "B = 0, model 4: p x KF",
+    NoReadingByRiser "B = 0, model 3: s x KF",
+    NoReadingModel5Equal "B = 0, model 5: equal parts",
+
+    // Steps 5 and 6
+    CommonHeatByLoad "common heat by q",
+    CommonHeatOfReadUnits "common heat over read units",
+    CommonHeatWithFactor "common heat by p x KF",
+    CommonHeatByRiser "common heat by s in model 4",
+    CommonHeatEqual "common heat in equal parts",
+    ClassZeroInCount "class 0 counted in n2",
+    ClassesWithoutCount "water weights without n1, n2",
+    CountsSwapped "water weights with n1, n2 exchanged",
+    PersonsOfBothClasses "N2 over classes 1 and 2",
+    OneClassByProducts "one class only: still by products",
+    CommonWaterOfClass2 "common water over class 2",
+    CommonWaterByLitres "common water by litres",
+    CommonWaterByArea "common water by p",
+    CommonWaterEqual "common water in equal parts",
+
+    // Step 7
+    BillRoundedDown "bill rounded down",
+    BillRoundedUp "bill rounded up",
+    BillHalfEven "bill half to even",
+    BillByColumn "bill divided over the four columns, then inside each",
+    BillByUnit "bill divided over the units, then inside each",
+    BillInColumnOrder "bill divided in column order",
+    BillHalfUpEach "each unit's cents half up",
+    StatementByKind "all Wh first, then all cents",
+    StatementInPairs "Wh and cents in turn",
+
+    // "Archive record"
+    HeadZeros "head's bytes 6 and 7 not tested",
+    HeadVersion "head's version not tested",
+    HeadAfterSheet "14's head tested after the sheet",
+    ShortRecord "under 8 bytes is 1",
+    RecordLength "5 in a record wants 48 + 32n",
+    StatementBeforeSheet "14 for the statement before 6 to 12",
+    LastNumber "last number not compared",
+    OnlyEnergies "cents not compared",
+    PartFromStart "the sheet's part counted from byte 0",
+    PartOfRefused "a refused record has a part",
+    LongerRecordList "writer: a longer list allowed",
+    RecordListFirst "writer: 13 tested first",
+    StatementNotLittleEndian "statement big-endian",
+
+    // "Year book"
+    BookAfterSheet "15 tested after the sheet",
+    BookLonger "a longer book allowed",
+    BookCount "n over 160 allowed",
+    BookMarks "a mark over 1 allowed",
+    BookOfNone "n = 0 is 15",
+    BookAtOpening "opening tests n and marks",
+    OpeningSettles "opening refuses 8 to 12",
+    OpeningKeepsBlocks "opening leaves what stands after the ids",
+    OpeningKeepsIds "opening leaves the ids after n",
+    OpeningPosts "opening posts the month",
+    MonthBeforeBuilding "17 tested before 16",
+    BuildingBeforeMonth "16 tested before 8 to 12",
+    StandingBeforeSettling "17 tested before 8 to 12",
+    CountNotCompared "16 without n",
+    IdsNotCompared "16 without ids",
+    IdsAfterCount "16 compares ids after n",
+    PostOfStanding "post of a month that stands",
+    ReplaceOfAbsent "replace of a month that doesn't stand",
+    PostLeavesTail "post leaves what stands after 8n",
+    ReplaceKeepsMeter "replace keeps M",
+    ReplaceKeepsBill "replace keeps the bill",
+    ReplaceAdds "replace adds to the numbers",
+    RefusedPostMarks "post refused by 17 writes M",
+    WithdrawLeavesBlock "withdraw leaves the block",
+    WithdrawLeavesTail "withdraw leaves what stands after 8n",
+    WithdrawLeavesMeter "withdraw leaves M",
+    WithdrawLeavesBill "withdraw leaves the bill",
+    WithdrawFromZero "withdraw counts months from 0",
+    WithdrawOfAbsent "withdraw of a month that doesn't stand",
+    YearOfAllMonths "year sums over unmarked months too",
+    YearOfMeters "k counts months with M above 0",
+    YearTwelve "k is always 12",
+    YearPlaceOfCount "place n allowed",
+    YearPlaceFromOne "place counted from 1",
+    YearPlaceFirst "18 tested before 15",
+    YearIn32Bits "year sums in 32 bits",
+}
+
+impl Reading {
+    pub fn all() -> Vec<Reading> {
+        let named = NAMED.iter().map(|&(reading, _)| reading);
+        let ends = Range::ALL.into_iter().flat_map(|range| {
+            let ends = range.ends_to_shift().into_iter();
+            ends.map(move |end| Reading::Ends(range, end))
+        });
+        named.chain(ends).collect()
+    }
+
+    pub fn description(self) -> String {
+        match self {
+            Reading::Ends(range, end) => {
+                let (lowest, highest) = range.shifted(end);
+                format!("{range:?} from {lowest} to {highest}")
+            }
+            _ => {
+                let entry = NAMED.iter().find(|(reading, _)| *reading == self);
+                entry.expect("every reading is named").1.to_string()
+            }
+        }
+    }
+}

@@ -1,0 +1,98 @@
+//! The fast form against the plain one: answers and every list.
+
+use compare::book::{self, BOOK_LEN};
+use compare::damage::damaged_sheet;
+use compare::edges::{border_sheet, sheet_at_an_end};
+use compare::rng::Rng;
+use compare::samples::random_sheet;
+use compare::sheet::{build_sheet, get_u16};
+use compare::{apportion, fast, record, settle};
+
+fn random_bytes(rng: &mut Rng) -> Vec<u8> {
+    match rng.below(6) {
+        0 => damaged_sheet(rng),
+        1 => border_sheet(rng),
+        2 => sheet_at_an_end(rng),
+        _ => build_sheet(&random_sheet(rng)),
+    }
+}
+
+fn unit_count(sheet: &[u8]) -> usize {
+    if sheet.len() < 10 {
+        return 0;
+    }
+    usize::from(get_u16(sheet, 8)).min(160)
+}
+
+#[test]
+fn statements() {
+    let mut rng = Rng::new(31);
+    for _ in 0..40_000 {
+        let sheet = random_bytes(&mut rng);
+        let len = 8 * unit_count(&sheet) + usize::from(rng.once_in(20));
+        let expected = settle::settle(&sheet, len).map(|outcome| outcome.numbers);
+        let mut list = vec![0; len];
+        let answer = fast::settle::<true>(&sheet, &mut list).map(|()| list.clone());
+        assert_eq!(answer, expected);
+        let answer = fast::settle::<false>(&sheet, &mut list).map(|()| list.clone());
+        assert_eq!(answer, expected);
+    }
+}
+
+#[test]
+fn records() {
+    let mut rng = Rng::new(32);
+    for _ in 0..5_000 {
+        let sheet = random_bytes(&mut rng);
+        let len = 56 + 64 * unit_count(&sheet);
+        let (mut plain, mut other) = (vec![0; len], vec![0; len]);
+        let expected = record::write_record(&sheet, &mut plain);
+        assert_eq!(fast::record::write(&sheet, &mut other), expected);
+        assert_eq!(other, plain);
+        if rng.once_in(2) {
+            plain[rng.below(len as u64) as usize] ^= 1;
+        }
+        let expected = record::read_record(&plain);
+        match fast::record::read(&plain) {
+            Ok(length) => assert_eq!((0, length), (expected.number, expected.part_length)),
+            Err(refusal) => assert_eq!(refusal.number, expected.number),
+        }
+    }
+}
+
+#[test]
+fn books() {
+    let mut rng = Rng::new(33);
+    for _ in 0..300 {
+        let (mut plain, mut other) = (vec![7; BOOK_LEN], vec![7; BOOK_LEN]);
+        let sheet = random_bytes(&mut rng);
+        let expected = book::open(&mut plain, &sheet);
+        assert_eq!(fast::book::open(&mut other, &sheet), expected);
+        for _ in 0..3 {
+            let expected = book::post(&mut plain, &sheet);
+            assert_eq!(fast::book::post(&mut other, &sheet), expected);
+            let expected = book::replace(&mut plain, &sheet);
+            assert_eq!(fast::book::replace(&mut other, &sheet), expected);
+            assert_eq!(other, plain);
+            let place = rng.below(5) as u32;
+            assert_eq!(fast::book::year(&other, place), book::year(&plain, place));
+        }
+    }
+}
+
+#[test]
+fn divisions() {
+    let mut rng = Rng::new(34);
+    for _ in 0..20_000 {
+        let count = rng.between(1, 40) as usize;
+        let highest = [1, 3, 1_000, 4_000_000_000, 24_000_000_000_000_000][rng.below(5) as usize];
+        let weights: Vec<u64> = (0..count).map(|_| rng.edge(0, highest)).collect();
+        let total = rng.edge(0, 4_000_000_000);
+        let expected = apportion::apportion(total, &weights);
+        let (mut rest, mut shares) = (vec![0; count], vec![0; count]);
+        fast::dividing::divide::<true>(total, &weights, &mut rest, &mut shares);
+        assert_eq!(shares, expected);
+        fast::dividing::divide::<false>(total, &weights, &mut rest, &mut shares);
+        assert_eq!(shares, expected);
+    }
+}
