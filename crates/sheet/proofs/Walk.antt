@@ -16,7 +16,7 @@ use Rattle.sheet.specs.Tests.{all}
 use Rattle.sheet.specs.Refusals.{firstRefusal}
 use Rattle.sheet.specs.Layout.{UnitRow, Sheet, sheetOf}
 use Rattle.sheet.specs.Fields.{unitOf, idBefore, rowFields, rowField, headerFields, headerField}
-use Rattle.sheet.specs.Check.{_to_, _within_, headerTests, rowTests, rowRules, notAbove}
+use Rattle.sheet.specs.Check.{_to_, _within_, entry, statusRanges, waterClassRanges, readingRanges, headerTests, rowTests, rowRules, notAbove}
 use Rattle.sheet.specs.FieldRanges.{headerRanges, rowRanges, rangeTests}
 use Rattle.sheet.proofs.Units.{units-from, units-count}
 
@@ -58,14 +58,17 @@ module _ (s : Sheet) (u : UnitRow) where
   unfolding rowTests
   row-length = refl
 
-  pub row-test : (model source status class x k : ℕ) (rs : List Range)
-      → model ≡ s .model → source ≡ s .waterSource → status ≡ u .status → class ≡ u .waterClass → rs ≡ rowRanges model source status class → x ≡ rowField u (k + 1) → k < 10
+  pub row-test : (model source status class x k : ℕ) (statuses classes readings : Range) (rs : List Range) → model ≡ s .model → source ≡ s .waterSource
+      → statuses ≡ entry statusRanges model → classes ≡ entry waterClassRanges source → readings ≡ entry readingRanges model
+      → status ≡ u .status → class ≡ u .waterClass → rs ≡ rowRanges statuses classes readings status class → x ≡ rowField u (k + 1) → k < 10
       → (x within getD rs k (0 to 0)) ≡ getD (rowTests s u) k false
   unfolding rowTests rowRanges
-  row-test model source status class x k rs m w t c r e h =
+  row-test model source status class x k statuses classes readings rs m w l₁ l₂ l₃ t c r e h =
       ap₂ (λ (x : ℕ) (rs : List Range). x within getD rs k (0 to 0)) (e ∙ ap (rowField u) (add-one k))
-      (r ∙ ap₂ (λ (m w : ℕ). rowRanges m w status class) m w ∙ ap₂ (rowRanges (s .model) (s .waterSource)) t c)
-      ∙ range-test (drop 1 (rowFields u)) (rowRanges (s .model) (s .waterSource) (u .status) (u .waterClass)) k h h
+      (r ∙ ap₂ (λ (a b : Range). rowRanges a b readings status class) (l₁ ∙ ap (entry statusRanges) m) (l₂ ∙ ap (entry waterClassRanges) w)
+      ∙ ap (λ (c : Range). rowRanges (entry statusRanges (s .model)) (entry waterClassRanges (s .waterSource)) c status class) (l₃ ∙ ap (entry readingRanges) m)
+      ∙ ap₂ (rowRanges (entry statusRanges (s .model)) (entry waterClassRanges (s .waterSource)) (entry readingRanges (s .model))) t c)
+      ∙ range-test (drop 1 (rowFields u)) (rowRanges (entry statusRanges (s .model)) (entry waterClassRanges (s .waterSource)) (entry readingRanges (s .model)) (u .status) (u .waterClass)) k h h
 
 -- ---- the rows from i on
 abbrev pub rowsFrom : List ℕ → ℕ → Outcome

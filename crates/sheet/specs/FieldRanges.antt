@@ -1,11 +1,11 @@
--- The ranges of the header's and of a row's fields as lists in layout order, and the tests they make.
+-- The ranges of the header's and of a row's fields as lists in layout order. proofs/Walk.antt shows that they make the tests of Check.antt.
 use mathlib.Core.Bool.{Bool}
 use mathlib.Core.List.{List, [], _∷_}
 use Prim.Native.Nat.{ℕ}
 use lib.Dec.{eqb}
 use Rattle.sheet.specs.declared.ranges.Range.{Range}
 use Rattle.sheet.specs.Tests.{if_then_else_}
-use Rattle.sheet.specs.Check.{entry, _to_, _within_, basePercentRanges, commonHeatRanges, unmeteredFactorRanges, commonWaterRanges, lossFactorRanges, firstWaterReadingRanges, otherWaterReadingRanges, statusRanges, waterClassRanges, readingRanges, litresRanges, personsRanges}
+use Rattle.sheet.specs.Check.{entry, _to_, _within_, basePercentRanges, commonHeatRanges, unmeteredFactorRanges, commonWaterRanges, lossFactorRanges, firstWaterReadingRanges, otherWaterReadingRanges, litresRanges, personsRanges}
 
 -- by model and source
 unfoldable pub headerRanges : ℕ → ℕ → List Range
@@ -29,16 +29,16 @@ headerRanges model source =
     ∷ entry otherWaterReadingRanges source
     ∷ []
 
--- of the fields after the id, by model, source, and the row's own status and water class
-unfoldable pub rowRanges : ℕ → ℕ → ℕ → ℕ → List Range
-rowRanges model source status class =
-    entry statusRanges model
-    ∷ entry waterClassRanges source
+-- of a row's fields after the id: what model and source allow as status, water class and reading, then the row's own status and water class
+unfoldable pub rowRanges : (statuses classes readings : Range) → (status class : ℕ) → List Range
+rowRanges statuses classes readings status class =
+    statuses
+    ∷ classes
     ∷ 1 to 1000
     ∷ 1 to 10000
     ∷ 0 to 10000
     ∷ 0 to 100000
-    ∷ (if eqb status 0 then entry readingRanges model else 0 to 0)
+    ∷ (if eqb status 0 then readings else 0 to 0)
     ∷ entry litresRanges class
     ∷ entry personsRanges class
     ∷ 0 to 0

@@ -54,11 +54,12 @@ fn check_rows(s: &[u8], n: usize) -> Outcome
 {
     let model = header_field(s, header::MODEL);
     let source = header_field(s, header::WATER_SOURCE);
+    let limits = ranges::row_limits(model, source);
     let mut found = Outcome::Accepted;
     'rows: for i in 0..n {
         let status = unit_field(s, i, rows::STATUS);
         let class = unit_field(s, i, rows::WATER_CLASS);
-        let ranges = ranges::row_ranges(model, source, status, class);
+        let ranges = ranges::row_ranges(limits, status, class);
         for k in 0..10usize {
             let range = ranges[k];
             if !ranges::within(unit_field(s, i, k + rows::STATUS), range) {

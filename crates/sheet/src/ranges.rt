@@ -1,7 +1,7 @@
 // Lowest and highest value of each field (document 01, "The sheet").
 ghost use mathlib.Core.Path.{_≡_};
 ghost use lib.Dec.{eqb};
-ghost use Rattle.sheet.specs.Check.{_within_, _to_, entry, readingRanges};
+ghost use Rattle.sheet.specs.Check.{_within_, _to_, entry, statusRanges, waterClassRanges, readingRanges};
 ghost use Rattle.sheet.specs.Tests.{if_then_else_};
 ghost use Rattle.sheet.specs.FieldRanges.{headerRanges, rowRanges};
 use crate::tables;
@@ -79,24 +79,40 @@ pub fn header_ranges(model: u32, source: u32) -> [Range; 17]
     ]
 }
 
-// b is 0 where the unit isn't read.
-fn reading_range(model: u32, status: u32) -> Range
-    ensures { λ r. ⌜ r ≡ (if eqb status 0 then entry readingRanges model else 0 to 0) ⌝ }
+// What model and source allow in every row.
+pub struct RowLimits {
+    pub status: Range,
+    pub class: Range,
+    pub reading: Range,
+}
+
+pub fn row_limits(model: u32, source: u32) -> RowLimits
+    ensures { λ r. ⌜ (r .status ≡ entry statusRanges model) × (r .class ≡ entry waterClassRanges source) × (r .reading ≡ entry readingRanges model) ⌝ }
 {
-    if status == 0 {
-        by_model(tables::READING, model)
-    } else {
-        tables::ZERO
+    RowLimits {
+        status: by_model(tables::STATUS, model),
+        class: by_source(tables::WATER_CLASS, source),
+        reading: by_model(tables::READING, model),
     }
 }
 
-// A row's fields after the id, in layout order.
-pub fn row_ranges(model: u32, source: u32, status: u32, class: u32) -> [Range; 10]
-    ensures { λ r. ⌜ r ≡ rowRanges model source status class ⌝ }
+// b is 0 where the unit isn't read.
+fn if_read(status: u32, reading: Range) -> Range
+    ensures { λ r. ⌜ r ≡ (if eqb status 0 then reading else 0 to 0) ⌝ }
 {
+    if status == 0 { reading } else { tables::ZERO }
+}
+
+// A row's fields after the id, in layout order.
+pub fn row_ranges(limits: RowLimits, status: u32, class: u32) -> [Range; 10]
+    ensures { λ r. ⌜ r ≡ rowRanges (limits .status) (limits .class) (limits .reading) status class ⌝ }
+{
+    let statuses = limits.status;
+    let classes = limits.class;
+    let readings = limits.reading;
     [
-        by_model(tables::STATUS, model),
-        by_source(tables::WATER_CLASS, source),
+        statuses,
+        classes,
         Range {
             low: 1,
             high: 1_000,
@@ -113,7 +129,7 @@ pub fn row_ranges(model: u32, source: u32, status: u32, class: u32) -> [Range; 1
             low: 0,
             high: 100_000,
         },
-        reading_range(model, status),
+        if_read(status, readings),
         by_class(tables::LITRES, class),
         by_class(tables::PERSONS, class),
         tables::ZERO,

@@ -18,16 +18,16 @@ ten : (s : List ℕ) (i : ℕ) → length (testsOf s i) ≡ 10
 ten s i = row-length (sheetOf s) (unitOf (sheetOf s) i)
 
 abbrev Inv-loop : tie.InvT-loop
-Inv-loop s n model source found₀ i status class ranges k₀ found k = (k ≤ 10) × ((found ≡ Accepted) × (all (drop k (testsOf s i)) ≡ all (testsOf s i)))
+Inv-loop s n model source limits found₀ i status class ranges k₀ found k = (k ≤ 10) × ((found ≡ Accepted) × (all (drop k (testsOf s i)) ≡ all (testsOf s i)))
 
 abbrev μ-loop : tie.MeasureT-loop
-μ-loop s n model source found₀ i status class ranges k₀ found k = 10 - k
+μ-loop s n model source limits found₀ i status class ranges k₀ found k = 10 - k
 
 abbrev Inv-rows : tie.InvT-rows
-Inv-rows s n model source found₀ i₀ found i = (i ≤ n) × ((found ≡ Accepted) × (rowsFrom s i ≡ rowsFrom s 0))
+Inv-rows s n model source limits found₀ i₀ found i = (i ≤ n) × ((found ≡ Accepted) × (rowsFrom s i ≡ rowsFrom s 0))
 
 abbrev μ-rows : tie.MeasureT-rows
-μ-rows s n model source found₀ i₀ found i = n - i
+μ-rows s n model source limits found₀ i₀ found i = n - i
 
 -- the row and the field at hand, from the test of a field
 abbrev Tested : Type 0
@@ -40,7 +40,7 @@ abbrev fieldOf : Tested → tie.At-loop Inv-loop μ-loop Inv-rows μ-rows
 fieldOf c = c .before .before .before .before
 
 abbrev bytesOf : tie.At-rows Inv-loop μ-loop Inv-rows μ-rows → List ℕ
-bytesOf c = c .before .before .before .before .args .s .now
+bytesOf c = c .before .before .before .before .before .args .s .now
 
 -- the code's test is the definition's
 test : (c : Tested) → getD (testsOf (bytesOf (rowOf c)) (rowOf c .rows .i)) (fieldOf c .loop .k) false ≡ c .within .result
@@ -48,7 +48,7 @@ test c =
     let s = sheetOf (bytesOf (rowOf c)) in
     let row = rowOf c in
     let field = fieldOf c in
-    let ranges = row-test s (unitOf s (row .rows .i)) _ _ _ _ _ (field .loop .k) _ (row .before .before .header-field .ensures) (row .before .header-field2 .ensures) (field .before .before .before .unit-field .ensures) (field .before .before .unit-field2 .ensures) (field .before .row-ranges .ensures) in
+    let ranges = row-test s (unitOf s (row .rows .i)) _ _ _ _ _ (field .loop .k) _ _ _ _ (row .before .before .before .header-field .ensures) (row .before .before .header-field2 .ensures) (row .before .row-limits .ensures .0) (row .before .row-limits .ensures .1) (row .before .row-limits .ensures .2) (field .before .before .before .unit-field .ensures) (field .before .before .unit-field2 .ensures) (field .before .row-ranges .ensures) in
     sym (c .within .ensures ∙ ranges (c .before .unit-field3 .ensures) (omega arith))
 
 -- behind the last field all tests have passed
@@ -64,6 +64,9 @@ header-field-requires c κs = omega arith
 
 header-field-requires-2 : tie.Need-header-field-requires-2 Inv-loop μ-loop Inv-rows μ-rows
 header-field-requires-2 c κs = omega arith
+
+row-limits-requires : tie.Need-row-limits-requires Inv-loop μ-loop Inv-rows μ-rows
+row-limits-requires c κs = search needs
 
 rows-holds : tie.Need-rows-holds Inv-loop μ-loop Inv-rows μ-rows
 rows-holds c = (omega arith, (refl, refl))
@@ -95,8 +98,8 @@ unit-field-requires-3 c κs = omega arith
 within-requires : tie.Need-within-requires Inv-loop μ-loop Inv-rows μ-rows
 within-requires c κs = search needs
 
-cast-t21 : tie.Need-cast-t21 Inv-loop μ-loop Inv-rows μ-rows
-cast-t21 c = omega arith
+cast-t22 : tie.Need-cast-t22 Inv-loop μ-loop Inv-rows μ-rows
+cast-t22 c = omega arith
 
 add-k : tie.Need-add-k Inv-loop μ-loop Inv-rows μ-rows
 add-k c = omega arith
@@ -116,8 +119,8 @@ loop-again c =
 not-above-requires : tie.Need-not-above-requires Inv-loop μ-loop Inv-rows μ-rows
 not-above-requires c κs = omega arith
 
-cast-t24 : tie.Need-cast-t24 Inv-loop μ-loop Inv-rows μ-rows
-cast-t24 c = omega arith
+cast-t25 : tie.Need-cast-t25 Inv-loop μ-loop Inv-rows μ-rows
+cast-t25 c = omega arith
 
 add-i : tie.Need-add-i Inv-loop μ-loop Inv-rows μ-rows
 add-i c = omega arith
@@ -161,6 +164,7 @@ check-rows-spec =
     μ-rows
     header-field-requires
     header-field-requires-2
+    row-limits-requires
     rows-holds
     unit-field-requires
     unit-field-requires-2
@@ -171,12 +175,12 @@ check-rows-spec =
     add-unit-field
     unit-field-requires-3
     within-requires
-    cast-t21
+    cast-t22
     add-k
     loop-less
     loop-again
     not-above-requires
-    cast-t24
+    cast-t25
     add-i
     rows-less
     rows-again

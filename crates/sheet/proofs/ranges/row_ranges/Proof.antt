@@ -5,14 +5,8 @@ use borrow.Author.Needs.{needs}
 use Rattle.sheet.proofs.ranges.row_ranges.Statement.{statement}
 use Rattle.sheet.proofs.ranges.row_ranges.Tie as tie
 
-by-model-requires : tie.Need-by-model-requires
-by-model-requires c κs = search needs
-
-by-source-requires : tie.Need-by-source-requires
-by-source-requires c κs = search needs
-
-reading-range-requires : tie.Need-reading-range-requires
-reading-range-requires c κs = search needs
+if-read-requires : tie.Need-if-read-requires
+if-read-requires c κs = search needs
 
 by-class-requires : tie.Need-by-class-requires
 by-class-requires c κs = search needs
@@ -23,13 +17,13 @@ by-class-requires-2 c κs = search needs
 returns : tie.Need-returns
 unfolding rowRanges
 returns c =
-    λ i. c .before .before .before .before .by-model .ensures i
-    ∷ c .before .before .before .by-source .ensures i
+    λ i. c .before .before .before .before .before .before .args .limits .status
+    ∷ c .before .before .before .before .before .before .args .limits .class
     ∷ 1 to 1000
     ∷ 1 to 10000
     ∷ 0 to 10000
     ∷ 0 to 100000
-    ∷ c .before .before .reading-range .ensures i
+    ∷ c .before .before .if-read .ensures i
     ∷ c .before .by-class .ensures i
     ∷ c .by-class2 .ensures i
     ∷ 0 to 0
@@ -39,9 +33,7 @@ pub row-ranges-spec : {M : Type 1} → statement M
 row-ranges-spec =
     tie.close
     (tie.spec
-    by-model-requires
-    by-source-requires
-    reading-range-requires
+    if-read-requires
     by-class-requires
     by-class-requires-2
     returns)
