@@ -42,7 +42,7 @@ pub past-largest : (m : ℕ) (ks : List ℕ) → largest ks < m → atLeast m ks
 past-largest m [] h = refl
 past-largest m (k ∷ ks) h = omega (arith, past-largest m ks (omega arith), bit-no m k (omega arith))
 
-count-snoc : (m : ℕ) (ks : List ℕ) (k : ℕ) → atLeast m (ks ++ (k ∷ [])) ≡ atLeast m ks + bit (leb m k)
+pub count-snoc : (m : ℕ) (ks : List ℕ) (k : ℕ) → atLeast m (ks ++ (k ∷ [])) ≡ atLeast m ks + bit (leb m k)
 count-snoc m [] k = omega arith
 count-snoc m (j ∷ ks) k = omega (arith, count-snoc m ks k)
 

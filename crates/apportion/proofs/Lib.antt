@@ -1,5 +1,6 @@
 -- The laws of dividing, and what the proofs of its functions share.
 pub mod Counting
+pub mod Near
 pub mod Takers
 pub mod Leftover
 pub mod Laws

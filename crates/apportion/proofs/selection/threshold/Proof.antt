@@ -1,132 +1,32 @@
--- `threshold` meets its contract: at least `left` keys reach the bracket's lower end, and fewer its upper end.
-use Rattle.apportion.proofs.Counting.{antitone, at-zero, past-largest, above-under, below-over}
-use mathlib.Core.Path.{_≡_, ap}
-use Prim.Native.Nat.{ℕ, suc, _+_, _-_, _≤_, _<_}
-use native.Mathlib.Omega.{arith}
-use Rattle.apportion.specs.Shares.{atLeast}
+use borrow.Author.Needs.{needs}
 use Rattle.apportion.proofs.selection.threshold.Statement.{statement}
 use Rattle.apportion.proofs.selection.threshold.Tie as tie
 
-abbrev Inv-loop : tie.InvT-loop
-Inv-loop keys left top lo₀ hi₀ reach-lo₀ reach-hi₀ turn₀ lo hi reach-lo reach-hi turn =
-    (lo < hi)
-    × (turn + (hi - lo) ≤ top + 1)
-    × (hi ≤ top + 1)
-    × (reach-lo ≡ atLeast lo keys)
-    × (reach-hi ≡ atLeast hi keys)
-    × (reach-hi < left)
-    × (left ≤ reach-lo)
+add-narrow : tie.Need-add-narrow
+add-narrow c = search needs
 
-abbrev μ-loop : tie.MeasureT-loop
-μ-loop keys left top lo₀ hi₀ reach-lo₀ reach-hi₀ turn₀ lo hi reach-lo reach-hi turn = hi - lo
+narrow-requires : tie.Need-narrow-requires
+narrow-requires c κs = ?
 
-add-hi : tie.Need-add-hi Inv-loop μ-loop
-add-hi c = omega arith
+returns : tie.Need-returns
+returns c = search needs
 
-loop-holds : tie.Need-loop-holds Inv-loop μ-loop
-loop-holds c =
-    let a = c .before .args in
-    omega (arith, at-zero (a .keys .now), past-largest (a .top + 1) (a .keys .now) (omega arith))
+slice-aggregate-threshold-near : tie.Need-slice-aggregate-threshold-near
+slice-aggregate-threshold-near c = search needs
 
-sub-loop : tie.Need-sub-loop Inv-loop μ-loop
-sub-loop c = omega arith
+threshold-near-requires : tie.Need-threshold-near-requires
+threshold-near-requires c κs = search needs
 
-sub-guess : tie.Need-sub-guess Inv-loop μ-loop
-sub-guess c = omega arith
-
-sub-guess-2 : tie.Need-sub-guess-2 Inv-loop μ-loop
-sub-guess-2 c = omega arith
-
-guess-requires : tie.Need-guess-requires Inv-loop μ-loop
-guess-requires c κs = omega arith
-
-count-around-requires : tie.Need-count-around-requires Inv-loop μ-loop
-count-around-requires c κs = omega arith
-
-add-turn : tie.Need-add-turn Inv-loop μ-loop
-add-turn c = omega arith
-
-sub-t15 : tie.Need-sub-t15 Inv-loop μ-loop
-sub-t15 c = omega arith
-
-returns : tie.Need-returns Inv-loop μ-loop
-returns c =
-    let k = c .before .before in
-    let g = k .before .guess in
-    let keys = k .before .before .before .before .before .args .keys .now in
-    let e : suc (g .result - 1) ≡ g .result = omega arith in
-    let f = ap (λ (x : ℕ). atLeast x keys) e in
-    omega (arith, k .count-around .ensures .is-count, antitone (g .result - 1) (g .result) keys (omega arith))
-
-loop-less : tie.Need-loop-less Inv-loop μ-loop
-loop-less c =
-    let k = c .before .before .before .before in
-    let l = k .before .before .before in
-    let a = l .before .before .args in
-    let o = k .count-around in
-    let e = o .ensures in
-    let h = above-under (k .before .guess .result) 0 (l .loop .lo) (l .loop .hi) (o .result .count) (o .result .below) (o .result .above) (a .keys .now) e (omega (arith, e .is-count)) in
-    omega (arith, e .is-count, e .same-above, e .same-below, e .below-le, e .le-above, e .lo-le, e .le-hi)
-
-loop-again : tie.Need-loop-again Inv-loop μ-loop
-loop-again c =
-    let k = c .before .before .before .before in
-    let l = k .before .before .before in
-    let a = l .before .before .args in
-    let o = k .count-around in
-    let e = o .ensures in
-    let h = above-under (k .before .guess .result) 0 (l .loop .lo) (l .loop .hi) (o .result .count) (o .result .below) (o .result .above) (a .keys .now) e (omega (arith, e .is-count)) in
-    omega (arith, e .is-count, e .same-above, e .same-below, e .below-le, e .le-above, e .lo-le, e .le-hi)
-
-loop-less-2 : tie.Need-loop-less-2 Inv-loop μ-loop
-loop-less-2 c =
-    let k = c .before .before .before .before in
-    let l = k .before .before .before in
-    let a = l .before .before .args in
-    let o = k .count-around in
-    let e = o .ensures in
-    let h = below-over (k .before .guess .result) 0 (l .loop .lo) (l .loop .hi) (o .result .count) (o .result .below) (o .result .above) (a .keys .now) e (omega (arith, e .is-count)) in
-    omega (arith, e .is-count, e .same-above, e .same-below, e .below-le, e .le-above, e .lo-le, e .le-hi)
-
-loop-again-2 : tie.Need-loop-again-2 Inv-loop μ-loop
-loop-again-2 c =
-    let k = c .before .before .before .before in
-    let l = k .before .before .before in
-    let a = l .before .before .args in
-    let o = k .count-around in
-    let e = o .ensures in
-    let h = below-over (k .before .guess .result) 0 (l .loop .lo) (l .loop .hi) (o .result .count) (o .result .below) (o .result .above) (a .keys .now) e (omega (arith, e .is-count)) in
-    omega (arith, e .is-count, e .same-above, e .same-below, e .below-le, e .le-above, e .lo-le, e .le-hi)
-
-sub-t16 : tie.Need-sub-t16 Inv-loop μ-loop
-sub-t16 c = omega arith
-
-returns-2 : tie.Need-returns-2 Inv-loop μ-loop
-returns-2 c =
-    let l = c .before .loop in
-    let keys = c .before .before .before .args .keys .now in
-    let e : suc (l .lo) ≡ l .hi = omega arith in
-    omega (arith, ap (λ (x : ℕ). atLeast x keys) e)
+returns-2 : tie.Need-returns-2
+returns-2 c = search needs
 
 pub threshold-spec : {M : Type 1} → statement M
 threshold-spec =
     tie.close
     (tie.spec
-    Inv-loop
-    μ-loop
-    add-hi
-    loop-holds
-    sub-loop
-    sub-guess
-    sub-guess-2
-    guess-requires
-    count-around-requires
-    add-turn
-    sub-t15
+    add-narrow
+    narrow-requires
     returns
-    loop-less
-    loop-again
-    loop-less-2
-    loop-again-2
-    sub-t16
+    slice-aggregate-threshold-near
+    threshold-near-requires
     returns-2)
