@@ -42,6 +42,9 @@ pub past-largest : (m : ℕ) (ks : List ℕ) → largest ks < m → atLeast m ks
 past-largest m [] h = refl
 past-largest m (k ∷ ks) h = omega (arith, past-largest m ks (omega arith), bit-no m k (omega arith))
 
+pub largest-positive : (ks : List ℕ) → 0 < atLeast 1 ks → 0 < largest ks
+largest-positive ks h = elim (decLe 1 (largest ks)) [ yes g ↦ g | no g ↦ absurd (omega (arith, past-largest 1 ks (omega arith))) ]
+
 pub count-snoc : (m : ℕ) (ks : List ℕ) (k : ℕ) → atLeast m (ks ++ (k ∷ [])) ≡ atLeast m ks + bit (leb m k)
 count-snoc m [] k = omega arith
 count-snoc m (j ∷ ks) k = omega (arith, count-snoc m ks k)

@@ -2,6 +2,7 @@
 pub mod Counting
 pub mod Near
 pub mod Takers
+pub mod Giving
 pub mod Leftover
 pub mod Laws
 pub mod Wide

@@ -65,11 +65,6 @@ module _ (lo hi : ℕ) (bracket : lo ≤ hi) where
   some-inside ks h =
       elim (decLe hi lo) [ yes g ↦ absurd (omega (arith, above-and-inside lo (omega arith) bracket ks, all-inside ks, antitone hi lo ks g)) | no g ↦ omega arith ]
 
-  -- a threshold of the keys inside is one of all keys
-  pub threshold-of : (left θ : ℕ) (ks : List ℕ) → lo ≤ θ → θ < hi → atLeast hi ks < left → Threshold (left - atLeast hi ks) θ (inside lo hi ks)
-      → (Threshold left θ ks) × (left - atLeast hi ks - atLeast (suc θ) (inside lo hi ks) ≡ left - atLeast (suc θ) ks)
-  threshold-of left θ ks a b h t = omega (arith, above-and-inside θ a (omega arith) ks, above-and-inside (suc θ) (omega arith) b ks)
-
   inside-snoc : (ks : List ℕ) (k : ℕ) → inside lo hi (ks ++ (k ∷ [])) ≡ inside lo hi ks ++ inside lo hi (k ∷ [])
   inside-snoc [] k = refl
   inside-snoc (j ∷ ks) k =
@@ -78,6 +73,24 @@ module _ (lo hi : ℕ) (bracket : lo ≤ hi) where
   pub collected-le : {above n : ℕ} {near ks : List ℕ} → Collected lo hi above n near ks → above + n ≤ length ks
   collected-le {ks = ks} c =
       omega (arith, c .is-above, c .is-within, above-and-inside lo (omega arith) bracket ks, all-inside ks, count-le lo ks)
+
+  -- the keys written serve to find the threshold, if it lies in the bracket
+  module _ {above n left : ℕ} {near ks : List ℕ} (c : Collected lo hi above n near ks) (few : n < 128) (a : above < left) (b : left ≤ above + n) where
+    pub to-narrow : (lo < hi) × (n ≡ atLeast lo (take n near)) × (atLeast hi (take n near) ≡ 0) × (0 < left - above) × (left - above ≤ n)
+    to-narrow =
+        let e = c .is-near few in (
+          some-inside ks (omega (arith, c .is-within)),
+          omega (arith, c .is-within, ap (atLeast lo) e, all-inside ks),
+          ap (atLeast hi) e ∙ none-past ks,
+          omega arith,
+          omega arith,
+        )
+
+    pub narrowed : {θ spare : ℕ} → lo ≤ θ → θ < hi → Threshold (left - above) θ (take n near) → spare ≡ left - above - atLeast (suc θ) (take n near)
+        → (Threshold left θ ks) × (spare ≡ left - atLeast (suc θ) ks)
+    narrowed {θ} {spare} g h t s =
+        let e = c .is-near few in
+        omega (arith, c .is-above, ap (atLeast θ) e, ap (atLeast (suc θ)) e, above-and-inside θ g (omega arith) ks, above-and-inside (suc θ) (omega arith) h ks)
 
   -- one key more, which stays written or not
   module _ {above n : ℕ} {near ks : List ℕ} (room : length near ≡ 128) (c : Collected lo hi above n near ks) (k : ℕ) where
@@ -100,7 +113,8 @@ module _ (lo hi : ℕ) (bracket : lo ≤ hi) where
           is-above = omega (arith, c .is-above, count-snoc hi ks k);
           is-within = omega (arith, c .is-within, ap length more, length-append (inside lo hi ks) (k ∷ []));
           is-near = λ h.
-              ap₂ (λ (i j : ℕ). take i (set near j k)) {y = suc n} (omega arith) {y' = n} (mod-eq-of-lt (omega arith))
+              ap (λ (i : ℕ). take (n + 1) (set near i k)) (mod-eq-of-lt {n = n} {m = 128} (omega arith))
+              ∙ ap (λ (i : ℕ). take i (set near n k)) {x = n + 1} {y = suc n} (omega arith)
               ∙ take-suc-set near n k (omega arith)
               ∙ ap (λ (r : List ℕ). r ++ (k ∷ [])) (c .is-near (omega arith))
               ∙ sym more;

@@ -188,6 +188,13 @@ fn caught(p: Split, left: u64) -> bool
     left - p.above <= p.within
 }
 
+fn threshold_of_all(keys: &[u64], left: u64, top: u64, positive: u64) -> Cut
+    requires { ⌜ (0 < left) × (left ≤ positive) × (positive ≡ atLeast 1 (now keys)) × (top ≡ largest (now keys)) × (top < 2 ^ 62) ⌝ }
+    ensures { λ r. ⌜ (Threshold left (r .theta) (now (keys .entry))) × (r .spare ≡ left - atLeast (suc (r .theta)) (now (keys .entry))) ⌝ }
+{
+    narrow(keys, left, 1, top + 1, positive)
+}
+
 // The threshold from the keys near it where that can be done, else from all keys.
 fn threshold_near(
     keys: &[u64],
@@ -203,7 +210,7 @@ fn threshold_near(
     let b = around(left, top, positive);
     let p = collect(keys, b.lo, b.hi, near);
     if !caught(p, left) {
-        return narrow(keys, left, 1, top + 1, positive);
+        return threshold_of_all(keys, left, top, positive);
     }
     narrow(&near[..p.within as usize], left - p.above, b.lo, b.hi, p.within)
 }
@@ -213,7 +220,7 @@ fn threshold(keys: &[u64], left: u64, top: u64, positive: u64) -> Cut
     ensures { λ r. ⌜ (Threshold left (r .theta) (now (keys .entry))) × (r .spare ≡ left - atLeast (suc (r .theta)) (now (keys .entry))) ⌝ }
 {
     if positive < 24 {
-        return narrow(keys, left, 1, top + 1, positive);
+        return threshold_of_all(keys, left, top, positive);
     }
     let mut near = [0u64; 128];
     threshold_near(keys, left, top, positive, &mut near)

@@ -5,10 +5,12 @@ use Prim.Native.Nat.{ℕ, _-_, _≤_, _<_}
 use native.Mathlib.Nat.{mod-lt}
 use native.Mathlib.Omega.{arith}
 use borrow.Author.Needs.{needs}
+use lib.Dec.{leb}
 use lib.ListN.{length, take, getD, length-set}
 use lib.Seq.{take-all, length-take-le}
 use Rattle.apportion.specs.Selection.{Collected}
 use Rattle.apportion.proofs.Counting.{antitone}
+use Rattle.apportion.proofs.Giving.{bit-le}
 use Rattle.apportion.proofs.Near.{collected-le, collected-with}
 use Rattle.apportion.proofs.Steps.{next-take}
 use Rattle.apportion.proofs.selection.collect.Statement.{statement}
@@ -33,7 +35,7 @@ mul-near : tie.Need-mul-near Inv-loop μ-loop
 mul-near c = search needs
 
 slice-write-near : tie.Need-slice-write-near Inv-loop μ-loop
-slice-write-near c = ?
+slice-write-near c = omega (arith, mod-lt (c .before .before .loop .within) {m = 128} (omega arith))
 
 one-if-requires : tie.Need-one-if-requires Inv-loop μ-loop
 one-if-requires c κs = search needs
@@ -42,13 +44,25 @@ one-if-requires-2 : tie.Need-one-if-requires-2 Inv-loop μ-loop
 one-if-requires-2 c κs = search needs
 
 sub-within : tie.Need-sub-within Inv-loop μ-loop
-sub-within c = ?
+sub-within c =
+    let at-loop = c .before .before .before .before in
+    let a = at-loop .before .before .before .args in
+    let k = getD (a .keys .now) (at-loop .loop .i) 0 in
+    omega (arith, c .one-if2 .ensures, c .before .one-if .ensures, antitone (a .lo) (a .hi) (k ∷ []) (omega arith))
 
 add-within : tie.Need-add-within Inv-loop μ-loop
-add-within c = ?
+add-within c =
+    let at-loop = c .before .before .before .before in
+    let l = at-loop .loop in
+    let a = at-loop .before .before .before .args in
+    omega (arith, c .one-if2 .ensures, c .before .one-if .ensures, bit-le (leb (a .lo) (getD (a .keys .now) (l .i) 0)), bit-le (leb (a .hi) (getD (a .keys .now) (l .i) 0)), collected-le (a .lo) (a .hi) (omega arith) (l .inv .2), length-take-le (l .i) (a .keys .now) (omega arith))
 
 add-above : tie.Need-add-above Inv-loop μ-loop
-add-above c = ?
+add-above c =
+    let at-loop = c .before .before .before .before in
+    let l = at-loop .loop in
+    let a = at-loop .before .before .before .args in
+    omega (arith, c .one-if2 .ensures, c .before .one-if .ensures, bit-le (leb (a .lo) (getD (a .keys .now) (l .i) 0)), bit-le (leb (a .hi) (getD (a .keys .now) (l .i) 0)), collected-le (a .lo) (a .hi) (omega arith) (l .inv .2), length-take-le (l .i) (a .keys .now) (omega arith))
 
 add-i : tie.Need-add-i Inv-loop μ-loop
 add-i c = omega arith
@@ -57,13 +71,24 @@ loop-less : tie.Need-loop-less Inv-loop μ-loop
 loop-less c = omega arith
 
 loop-again : tie.Need-loop-again Inv-loop μ-loop
-loop-again c = ?
+loop-again c =
+    let at-loop = c .before .before .before .before in
+    let l = at-loop .loop in
+    let a = at-loop .before .before .before .args in (
+      omega arith,
+      simp length-set (l .inv .1),
+      rw (next-take (a .keys .now) (l .i) (omega arith))
+          (collected-with (a .lo) (a .hi) (omega arith) (l .inv .1) (l .inv .2) (getD (a .keys .now) (l .i) 0) (c .one-if2 .ensures) (c .before .one-if .ensures)),
+    )
 
 same-length : tie.Need-same-length Inv-loop μ-loop
 same-length c = omega arith
 
 returns : tie.Need-returns Inv-loop μ-loop
-returns c = ?
+returns c =
+    let l = c .before .loop in
+    let a = c .before .before .before .before .args in
+    subst (λ (ks : List ℕ). Collected (a .lo) (a .hi) (l .above) (l .within) (l .near) ks) (take-all (l .i) (a .keys .now) (omega arith)) (l .inv .2)
 
 pub collect-spec : {M : Type 1} → statement M
 collect-spec =

@@ -1,14 +1,16 @@
-use mathlib.Core.Path.{_≡_, refl}
-use mathlib.Core.List.{List, _++_}
+-- `give_above` meets its contract: what is written and what is still given to the rest make the whole list.
+use mathlib.Core.Path.{_≡_, refl, sym, ap, _∙_}
+use mathlib.Core.List.{List, _∷_, _++_}
 use Prim.Native.Nat.{ℕ, _+_, _-_, _^_, _≤_, _<_}
 use native.Mathlib.Omega.{arith}
 use borrow.Author.Needs.{needs}
+use lib.Dec.{ltb}
 use lib.ListN.{length, take, drop, getD, length-set}
 use lib.Seq.{getD-set-other}
 use Rattle.apportion.specs.Shares.{added}
-use Rattle.apportion.specs.Selection.{given, ties}
-use Rattle.apportion.proofs.Takers.{one-le}
-use Rattle.apportion.proofs.Steps.{turn-given, whole-list}
+use Rattle.apportion.specs.Selection.{given}
+use Rattle.apportion.proofs.Giving.{bit-le, given-above}
+use Rattle.apportion.proofs.Steps.{next-drop, turn-added, whole-list}
 use Rattle.apportion.proofs.selection.give_above.Statement.{statement}
 use Rattle.apportion.proofs.selection.give_above.Tie as tie
 
@@ -35,7 +37,11 @@ one-if-requires : tie.Need-one-if-requires Inv-loop μ-loop
 one-if-requires c κs = search needs
 
 cast-out : tie.Need-cast-out Inv-loop μ-loop
-cast-out c = ?
+cast-out c =
+    let at-loop = c .before .before .before in
+    let l = at-loop .loop in
+    let a = at-loop .before .before .before .args in
+    omega (arith, c .one-if .ensures, bit-le (ltb (a .theta) (getD (a .keys .now) (l .i) 0)))
 
 mul-out : tie.Need-mul-out Inv-loop μ-loop
 mul-out c = search needs
@@ -44,7 +50,11 @@ slice-read-out : tie.Need-slice-read-out Inv-loop μ-loop
 slice-read-out c = omega arith
 
 add-out : tie.Need-add-out Inv-loop μ-loop
-add-out c = ?
+add-out c =
+    let at-loop = c .before .before .before .before in
+    let l = at-loop .loop in
+    let a = at-loop .before .before .before .args in
+    omega (arith, l .inv .2 (l .i) (omega arith), c .before .one-if .ensures, bit-le (ltb (a .theta) (getD (a .keys .now) (l .i) 0)))
 
 slice-write-out : tie.Need-slice-write-out Inv-loop μ-loop
 slice-write-out c = omega arith
@@ -56,13 +66,28 @@ loop-less : tie.Need-loop-less Inv-loop μ-loop
 loop-less c = omega arith
 
 loop-again : tie.Need-loop-again Inv-loop μ-loop
-loop-again c = ?
+loop-again c =
+    let at-loop = c .before .before .before .before in
+    let l = at-loop .loop in
+    let a = at-loop .before .before .before .args in
+    let o = c .before .one-if in
+    let hk : l .i < length (a .keys .now) = omega arith in (
+      omega arith,
+      simp length-set (l .inv .1),
+      (λ j h. rw (getD-set-other (l .out) (l .i) j (getD (l .out) (l .i) 0 + o .result) 0 (omega arith)) (l .inv .2 j (omega arith))),
+      turn-added (l .out) (given (a .theta) 0 (drop (l .i) (a .keys .now))) (given (a .theta) 0 (drop (l .i + 1) (a .keys .now))) (added (a .out .now) (given (a .theta) 0 (a .keys .now))) (l .i) (o .result) (omega arith)
+          (ap (given (a .theta) 0) (next-drop (a .keys .now) (l .i) hk) ∙ given-above (a .theta) (getD (a .keys .now) (l .i) 0) (drop (l .i + 1) (a .keys .now)) ∙ ap (λ (b : ℕ). b ∷ given (a .theta) 0 (drop (l .i + 1) (a .keys .now))) (sym (o .ensures))) (l .inv .3),
+    )
 
 same-length : tie.Need-same-length Inv-loop μ-loop
 same-length c = omega arith
 
 returns : tie.Need-returns Inv-loop μ-loop
-returns c = ?
+returns c =
+    let l = c .before .loop in
+    let a = c .before .before .before .before .args in
+    whole-list (l .out) (l .out) (added (a .out .now) (given (a .theta) 0 (a .keys .now))) (l .i) (omega arith) refl
+    (λ (r : List ℕ). added r (given (a .theta) 0 (drop (l .i) (a .keys .now)))) refl (l .inv .3)
 
 pub give-above-spec : {M : Type 1} → statement M
 give-above-spec =

@@ -1,14 +1,16 @@
-use mathlib.Core.Path.{_≡_, refl}
+-- `give_ties` meets its contract: what is written and what is still given to the rest make the whole list.
+use mathlib.Core.Path.{_≡_, refl, sym, ap, _∙_}
 use mathlib.Core.List.{List, _++_}
 use Prim.Native.Nat.{ℕ, _+_, _-_, _^_, _≤_, _<_}
 use native.Mathlib.Omega.{arith}
 use borrow.Author.Needs.{needs}
-use lib.ListN.{length, take, drop, getD, length-set}
+use lib.Dec.{eqb}
+use lib.ListN.{length, take, drop, getD, length-set, take-append-drop}
 use lib.Seq.{getD-set-other}
 use Rattle.apportion.specs.Shares.{added}
-use Rattle.apportion.specs.Selection.{given, ties}
-use Rattle.apportion.proofs.Takers.{one-le}
-use Rattle.apportion.proofs.Steps.{turn-given, whole-list}
+use Rattle.apportion.specs.Selection.{ties}
+use Rattle.apportion.proofs.Giving.{bit-le, ties-next, no-ties}
+use Rattle.apportion.proofs.Steps.{next-drop, turn-added, whole-list}
 use Rattle.apportion.proofs.selection.give_ties.Statement.{statement}
 use Rattle.apportion.proofs.selection.give_ties.Tie as tie
 
@@ -29,7 +31,13 @@ same-length : tie.Need-same-length Inv-loop μ-loop
 same-length c = omega arith
 
 returns : tie.Need-returns Inv-loop μ-loop
-returns c = ?
+returns c =
+    let l = c .before .before .loop in
+    let a = c .before .before .before .before .before .args in
+    sym (take-append-drop (l .i) (l .out))
+    ∙ ap (λ (r : List ℕ). take (l .i) (l .out) ++ r) (sym (no-ties (a .theta) (drop (l .i) (l .out)) (drop (l .i) (a .keys .now))))
+    ∙ ap (λ (s : ℕ). take (l .i) (l .out) ++ added (drop (l .i) (l .out)) (ties (a .theta) s (drop (l .i) (a .keys .now)))) {y = l .left} (omega arith)
+    ∙ l .inv .3
 
 mul-one-if : tie.Need-mul-one-if Inv-loop μ-loop
 mul-one-if c = search needs
@@ -41,7 +49,11 @@ one-if-requires : tie.Need-one-if-requires Inv-loop μ-loop
 one-if-requires c κs = search needs
 
 cast-out : tie.Need-cast-out Inv-loop μ-loop
-cast-out c = ?
+cast-out c =
+    let at-loop = c .before .before .before .before in
+    let l = at-loop .loop in
+    let a = at-loop .before .before .before .args in
+    omega (arith, c .one-if .ensures, bit-le (eqb (getD (a .keys .now) (l .i) 0) (a .theta)))
 
 mul-out : tie.Need-mul-out Inv-loop μ-loop
 mul-out c = search needs
@@ -50,13 +62,21 @@ slice-read-out : tie.Need-slice-read-out Inv-loop μ-loop
 slice-read-out c = omega arith
 
 add-out : tie.Need-add-out Inv-loop μ-loop
-add-out c = ?
+add-out c =
+    let at-loop = c .before .before .before .before .before in
+    let l = at-loop .loop in
+    let a = at-loop .before .before .before .args in
+    omega (arith, l .inv .2 (l .i) (omega arith), c .before .one-if .ensures, bit-le (eqb (getD (a .keys .now) (l .i) 0) (a .theta)))
 
 slice-write-out : tie.Need-slice-write-out Inv-loop μ-loop
 slice-write-out c = omega arith
 
 sub-left : tie.Need-sub-left Inv-loop μ-loop
-sub-left c = ?
+sub-left c =
+    let at-loop = c .before .before .before .before .before in
+    let l = at-loop .loop in
+    let a = at-loop .before .before .before .args in
+    omega (arith, c .before .one-if .ensures, bit-le (eqb (getD (a .keys .now) (l .i) 0) (a .theta)))
 
 add-i : tie.Need-add-i Inv-loop μ-loop
 add-i c = omega arith
@@ -65,13 +85,28 @@ loop-less : tie.Need-loop-less Inv-loop μ-loop
 loop-less c = omega arith
 
 loop-again : tie.Need-loop-again Inv-loop μ-loop
-loop-again c = ?
+loop-again c =
+    let at-loop = c .before .before .before .before .before in
+    let l = at-loop .loop in
+    let a = at-loop .before .before .before .args in
+    let o = c .before .one-if in
+    let hk : l .i < length (a .keys .now) = omega arith in (
+      omega arith,
+      simp length-set (l .inv .1),
+      (λ j h. rw (getD-set-other (l .out) (l .i) j (getD (l .out) (l .i) 0 + o .result) 0 (omega arith)) (l .inv .2 j (omega arith))),
+      turn-added (l .out) (ties (a .theta) (l .left) (drop (l .i) (a .keys .now))) (ties (a .theta) (l .left - o .result) (drop (l .i + 1) (a .keys .now))) (added (a .out .now) (ties (a .theta) (a .spare) (a .keys .now))) (l .i) (o .result) (omega arith)
+          (ap (ties (a .theta) (l .left)) (next-drop (a .keys .now) (l .i) hk) ∙ ties-next (a .theta) (l .left) (getD (a .keys .now) (l .i) 0) (o .result) (drop (l .i + 1) (a .keys .now)) (omega arith) (o .ensures)) (l .inv .3),
+    )
 
 same-length-2 : tie.Need-same-length-2 Inv-loop μ-loop
 same-length-2 c = omega arith
 
 returns-2 : tie.Need-returns-2 Inv-loop μ-loop
-returns-2 c = ?
+returns-2 c =
+    let l = c .before .loop in
+    let a = c .before .before .before .before .args in
+    whole-list (l .out) (l .out) (added (a .out .now) (ties (a .theta) (a .spare) (a .keys .now))) (l .i) (omega arith) refl
+    (λ (r : List ℕ). added r (ties (a .theta) (l .left) (drop (l .i) (a .keys .now)))) refl (l .inv .3)
 
 pub give-ties-spec : {M : Type 1} → statement M
 give-ties-spec =

@@ -1,3 +1,9 @@
+-- `threshold_near` meets its contract: a threshold of the keys near it is one of all keys.
+use mathlib.Core.Path.{sym}
+use native.Mathlib.Omega.{arith}
+use borrow.Author.Tests.{not-false}
+use lib.Seq.{length-take-le}
+use Rattle.apportion.proofs.Near.{to-narrow, narrowed}
 use borrow.Author.Needs.{needs}
 use Rattle.apportion.proofs.selection.threshold_near.Statement.{statement}
 use Rattle.apportion.proofs.selection.threshold_near.Tie as tie
@@ -11,11 +17,8 @@ collect-requires c κs = search needs
 caught-requires : tie.Need-caught-requires
 caught-requires c κs = search needs
 
-add-narrow : tie.Need-add-narrow
-add-narrow c = search needs
-
-narrow-requires : tie.Need-narrow-requires
-narrow-requires c κs = ?
+threshold-of-all-requires : tie.Need-threshold-of-all-requires
+threshold-of-all-requires c κs = search needs
 
 same-length : tie.Need-same-length
 same-length c = search needs
@@ -24,22 +27,37 @@ returns : tie.Need-returns
 returns c = search needs
 
 slice-reshare-prefix-narrow : tie.Need-slice-reshare-prefix-narrow
-slice-reshare-prefix-narrow c = ?
+slice-reshare-prefix-narrow c = omega (arith, c .before .caught .ensures (not-false _ (c .if1 .left)))
 
 slice-aggregate-narrow : tie.Need-slice-aggregate-narrow
-slice-aggregate-narrow c = ?
+slice-aggregate-narrow c =
+    let o = c .before .before .before .before .before .collect in
+    sym (length-take-le (o .result .within) (o .last .1 .1 .1 .0) (slice-reshare-prefix-narrow (c .before)))
 
 sub-narrow : tie.Need-sub-narrow
-sub-narrow c = ?
+sub-narrow c =
+    let outside = c .before .before in
+    omega (arith, outside .before .caught .ensures (not-false _ (outside .if1 .left)))
 
-narrow-requires-2 : tie.Need-narrow-requires-2
-narrow-requires-2 c κs = ?
+narrow-requires : tie.Need-narrow-requires
+narrow-requires c κs =
+    let outside = c .before .before in
+    let p = outside .before .before .before .before in
+    let b = p .before .before .around in
+    let h = outside .before .caught .ensures (not-false _ (outside .if1 .left)) in
+    to-narrow (b .result .lo) (b .result .hi) (b .ensures .1) (p .collect .ensures) (h .0) (h .1) (h .2)
 
 same-length-2 : tie.Need-same-length-2
 same-length-2 c = search needs
 
 returns-2 : tie.Need-returns-2
-returns-2 c = ?
+returns-2 c =
+    let outside = c .before .before .before in
+    let p = outside .before .before .before .before in
+    let b = p .before .before .around in
+    let h = outside .before .caught .ensures (not-false _ (outside .if1 .left)) in
+    let n = c .narrow .ensures in
+    narrowed (b .result .lo) (b .result .hi) (b .ensures .1) (p .collect .ensures) (h .0) (h .1) (h .2) (n .1 .0) (n .1 .1) (n .0 .0) (n .0 .1)
 
 pub threshold-near-spec : {M : Type 1} → statement M
 threshold-near-spec =
@@ -48,13 +66,12 @@ threshold-near-spec =
     around-requires
     collect-requires
     caught-requires
-    add-narrow
-    narrow-requires
+    threshold-of-all-requires
     same-length
     returns
     slice-reshare-prefix-narrow
     slice-aggregate-narrow
     sub-narrow
-    narrow-requires-2
+    narrow-requires
     same-length-2
     returns-2)
