@@ -7,14 +7,10 @@ use native.Mathlib.Omega.{arith}
 use borrow.Author.Tests.{eq-eqb, ne-eqb}
 use lib.Dec.{ltb, eqb}
 use lib.ListN.{getD}
-use Rattle.apportion.specs.Shares.{bit, added}
-use Rattle.apportion.specs.Selection.{one, spareAfter, given, tie, ties}
+use Rattle.apportion.specs.Shares.{bit, atLeast, extras, added}
+use Rattle.apportion.specs.Selection.{Threshold, one, spareAfter, given, tie, ties}
 use Rattle.apportion.proofs.Counting.{bit-yes, bit-min}
-use Rattle.apportion.proofs.Takers.{case, above, level, under, one-le}
-
-pub bit-le : (b : Bool) → bit b ≤ 1
-bit-le true = omega arith
-bit-le false = omega arith
+use Rattle.apportion.proofs.Takers.{case, above, level, under, one-le, extras-given}
 
 -- ---- with none to spare only the keys above get one
 pub given-above : (θ k : ℕ) (ks : List ℕ) → given θ 0 (k ∷ ks) ≡ bit (ltb θ k) ∷ given θ 0 ks
@@ -59,7 +55,7 @@ both θ s k =
     ]
 
 -- THE TWO PASSES GIVE WHAT IS GIVEN IN ONE
-pub above-then-ties : (θ s : ℕ) (xs ks : List ℕ) → added (added xs (given θ 0 ks)) (ties θ s ks) ≡ added xs (given θ s ks)
+above-then-ties : (θ s : ℕ) (xs ks : List ℕ) → added (added xs (given θ 0 ks)) (ties θ s ks) ≡ added xs (given θ s ks)
 above-then-ties θ s [] ks = refl
 above-then-ties θ s (x ∷ xs) [] = refl
 above-then-ties θ s (x ∷ xs) (k ∷ ks) =
@@ -67,3 +63,12 @@ above-then-ties θ s (x ∷ xs) (k ∷ ks) =
     ap (λ (gs : List ℕ). added (added (x ∷ xs) gs) (ties θ s (k ∷ ks))) (given-above θ k ks)
     ∙ ap₂ (λ (y : ℕ) (ys : List ℕ). y ∷ ys) {x = x + bit (ltb θ k) + t} {y = x + one θ s k} (omega (arith, both θ s k .0))
     (above-then-ties θ (s - t) xs ks ∙ ap (λ (r : ℕ). added xs (given θ r ks)) (both θ s k .1))
+
+pub leftover-given : (left θ spare : ℕ) (ks out : List ℕ) {mid last : List ℕ} → Threshold left θ ks → spare ≡ left - atLeast (suc θ) ks
+    → mid ≡ added out (given θ 0 ks) → last ≡ added mid (ties θ spare ks) → last ≡ added out (extras left [] ks)
+leftover-given left θ spare ks out h e m l =
+    l
+    ∙ ap (λ (xs : List ℕ). added xs (ties θ spare ks)) m
+    ∙ above-then-ties θ spare out ks
+    ∙ ap (λ (x : ℕ). added out (given θ x ks)) e
+    ∙ ap (added out) (sym (extras-given left θ ks h))

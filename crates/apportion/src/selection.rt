@@ -196,13 +196,7 @@ fn threshold_of_all(keys: &[u64], left: u64, top: u64, positive: u64) -> Cut
 }
 
 // The threshold from the keys near it where that can be done, else from all keys.
-fn threshold_near(
-    keys: &[u64],
-    left: u64,
-    top: u64,
-    positive: u64,
-    near: &mut [u64],
-) -> Cut
+fn threshold_near(keys: &[u64], left: u64, top: u64, positive: u64, near: &mut [u64]) -> Cut
     requires { ⌜ (0 < left) × (left ≤ positive) × (positive ≡ atLeast 1 (now keys)) × (top ≡ largest (now keys)) × (top < 2 ^ 62) ⌝ }
     requires { ⌜ (24 ≤ positive) × (length (now near) ≡ 128) ⌝ }
     ensures { λ r. ⌜ (Threshold left (r .theta) (now (keys .entry))) × (r .spare ≡ left - atLeast (suc (r .theta)) (now (keys .entry))) ⌝ }
@@ -212,7 +206,13 @@ fn threshold_near(
     if !caught(p, left) {
         return threshold_of_all(keys, left, top, positive);
     }
-    narrow(&near[..p.within as usize], left - p.above, b.lo, b.hi, p.within)
+    narrow(
+        &near[..p.within as usize],
+        left - p.above,
+        b.lo,
+        b.hi,
+        p.within,
+    )
 }
 
 fn threshold(keys: &[u64], left: u64, top: u64, positive: u64) -> Cut

@@ -1,7 +1,7 @@
 -- `collect` meets its contract: the keys so far that lie in the bracket.
 use mathlib.Core.Path.{_≡_, refl, subst}
 use mathlib.Core.List.{List, [], _∷_}
-use Prim.Native.Nat.{ℕ, _-_, _≤_, _<_}
+use Prim.Native.Nat.{ℕ, _-_, _≤_}
 use native.Mathlib.Nat.{mod-lt}
 use native.Mathlib.Omega.{arith}
 use borrow.Author.Needs.{needs}
@@ -9,8 +9,7 @@ use lib.Dec.{leb}
 use lib.ListN.{length, take, getD, length-set}
 use lib.Seq.{take-all, length-take-le}
 use Rattle.apportion.specs.Selection.{Collected}
-use Rattle.apportion.proofs.Counting.{antitone}
-use Rattle.apportion.proofs.Giving.{bit-le}
+use Rattle.apportion.proofs.Counting.{bit-le, antitone}
 use Rattle.apportion.proofs.Near.{collected-le, collected-with}
 use Rattle.apportion.proofs.Steps.{next-take}
 use Rattle.apportion.proofs.selection.collect.Statement.{statement}
@@ -55,14 +54,16 @@ add-within c =
     let at-loop = c .before .before .before .before in
     let l = at-loop .loop in
     let a = at-loop .before .before .before .args in
-    omega (arith, c .one-if2 .ensures, c .before .one-if .ensures, bit-le (leb (a .lo) (getD (a .keys .now) (l .i) 0)), bit-le (leb (a .hi) (getD (a .keys .now) (l .i) 0)), collected-le (a .lo) (a .hi) (omega arith) (l .inv .2), length-take-le (l .i) (a .keys .now) (omega arith))
+    let k = getD (a .keys .now) (l .i) 0 in
+    omega (arith, c .one-if2 .ensures, bit-le (leb (a .lo) k), collected-le (a .lo) (a .hi) (omega arith) (l .inv .2), length-take-le (l .i) (a .keys .now) (omega arith))
 
 add-above : tie.Need-add-above Inv-loop μ-loop
 add-above c =
     let at-loop = c .before .before .before .before in
     let l = at-loop .loop in
     let a = at-loop .before .before .before .args in
-    omega (arith, c .one-if2 .ensures, c .before .one-if .ensures, bit-le (leb (a .lo) (getD (a .keys .now) (l .i) 0)), bit-le (leb (a .hi) (getD (a .keys .now) (l .i) 0)), collected-le (a .lo) (a .hi) (omega arith) (l .inv .2), length-take-le (l .i) (a .keys .now) (omega arith))
+    let k = getD (a .keys .now) (l .i) 0 in
+    omega (arith, c .before .one-if .ensures, bit-le (leb (a .hi) k), collected-le (a .lo) (a .hi) (omega arith) (l .inv .2), length-take-le (l .i) (a .keys .now) (omega arith))
 
 add-i : tie.Need-add-i Inv-loop μ-loop
 add-i c = omega arith

@@ -9,7 +9,8 @@ use lib.ListN.{length, take, drop, getD, length-set}
 use lib.Seq.{getD-set-other}
 use Rattle.apportion.specs.Shares.{added}
 use Rattle.apportion.specs.Selection.{given}
-use Rattle.apportion.proofs.Giving.{bit-le, given-above}
+use Rattle.apportion.proofs.Counting.{bit-le}
+use Rattle.apportion.proofs.Giving.{given-above}
 use Rattle.apportion.proofs.Steps.{next-drop, turn-added, whole-list}
 use Rattle.apportion.proofs.selection.give_above.Statement.{statement}
 use Rattle.apportion.proofs.selection.give_above.Tie as tie
@@ -70,13 +71,15 @@ loop-again c =
     let at-loop = c .before .before .before .before in
     let l = at-loop .loop in
     let a = at-loop .before .before .before .args in
+    let ks = a .keys .now in
     let o = c .before .one-if in
-    let hk : l .i < length (a .keys .now) = omega arith in (
+    let rest = given (a .theta) 0 (drop (l .i + 1) ks) in (
       omega arith,
       simp length-set (l .inv .1),
       (λ j h. rw (getD-set-other (l .out) (l .i) j (getD (l .out) (l .i) 0 + o .result) 0 (omega arith)) (l .inv .2 j (omega arith))),
-      turn-added (l .out) (given (a .theta) 0 (drop (l .i) (a .keys .now))) (given (a .theta) 0 (drop (l .i + 1) (a .keys .now))) (added (a .out .now) (given (a .theta) 0 (a .keys .now))) (l .i) (o .result) (omega arith)
-          (ap (given (a .theta) 0) (next-drop (a .keys .now) (l .i) hk) ∙ given-above (a .theta) (getD (a .keys .now) (l .i) 0) (drop (l .i + 1) (a .keys .now)) ∙ ap (λ (b : ℕ). b ∷ given (a .theta) 0 (drop (l .i + 1) (a .keys .now))) (sym (o .ensures))) (l .inv .3),
+      turn-added (l .out) (given (a .theta) 0 (drop (l .i) ks)) rest (added (a .out .now) (given (a .theta) 0 ks)) (l .i) (o .result) (omega arith)
+          (ap (given (a .theta) 0) (next-drop ks (l .i) (omega arith)) ∙ given-above (a .theta) (getD ks (l .i) 0) (drop (l .i + 1) ks) ∙ ap (λ (b : ℕ). b ∷ rest) (sym (o .ensures)))
+          (l .inv .3),
     )
 
 same-length : tie.Need-same-length Inv-loop μ-loop

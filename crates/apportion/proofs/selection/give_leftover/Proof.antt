@@ -1,13 +1,11 @@
 -- `give_leftover` meets its contract: the threshold gives the leftover to the right items.
-use mathlib.Core.Path.{sym, ap, _∙_}
+use mathlib.Core.Path.{ap, _∙_}
 use mathlib.Core.List.{List}
 use Prim.Native.Nat.{ℕ}
 use native.Mathlib.Omega.{arith}
 use lib.ListN.{length, getD}
-use Rattle.apportion.specs.Shares.{added}
-use Rattle.apportion.specs.Selection.{given, ties}
-use Rattle.apportion.proofs.Takers.{extras-given}
-use Rattle.apportion.proofs.Giving.{one-each, above-then-ties}
+use Rattle.apportion.specs.Selection.{given}
+use Rattle.apportion.proofs.Giving.{one-each, leftover-given}
 use Rattle.apportion.proofs.Leftover.{length-added}
 use borrow.Author.Needs.{needs}
 use Rattle.apportion.proofs.selection.give_leftover.Statement.{statement}
@@ -41,12 +39,7 @@ returns c =
     let g = s .before .before .before .before in
     let t = g .before .before .threshold in
     let a = g .before .before .before .before .before .args in
-    let θ = t .result .theta in
-    s .give-ties .ensures
-    ∙ ap (λ (xs : List ℕ). added xs (ties θ (t .result .spare) (a .keys .now))) (g .give-above .ensures)
-    ∙ above-then-ties θ (t .result .spare) (a .out .now) (a .keys .now)
-    ∙ ap (λ (x : ℕ). added (a .out .now) (given θ x (a .keys .now))) (t .ensures .1)
-    ∙ ap (added (a .out .now)) (sym (extras-given (a .left) θ (a .keys .now) (t .ensures .0)))
+    leftover-given (a .left) (t .result .theta) (t .result .spare) (a .keys .now) (a .out .now) (t .ensures .0) (t .ensures .1) (g .give-above .ensures) (s .give-ties .ensures)
 
 pub give-leftover-spec : {M : Type 1} → statement M
 give-leftover-spec =

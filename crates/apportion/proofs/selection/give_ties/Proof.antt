@@ -9,7 +9,8 @@ use lib.ListN.{length, take, drop, getD, length-set, take-append-drop}
 use lib.Seq.{getD-set-other}
 use Rattle.apportion.specs.Shares.{added}
 use Rattle.apportion.specs.Selection.{ties}
-use Rattle.apportion.proofs.Giving.{bit-le, ties-next, no-ties}
+use Rattle.apportion.proofs.Counting.{bit-le}
+use Rattle.apportion.proofs.Giving.{ties-next, no-ties}
 use Rattle.apportion.proofs.Steps.{next-drop, turn-added, whole-list}
 use Rattle.apportion.proofs.selection.give_ties.Statement.{statement}
 use Rattle.apportion.proofs.selection.give_ties.Tie as tie
@@ -89,13 +90,15 @@ loop-again c =
     let at-loop = c .before .before .before .before .before in
     let l = at-loop .loop in
     let a = at-loop .before .before .before .args in
+    let ks = a .keys .now in
     let o = c .before .one-if in
-    let hk : l .i < length (a .keys .now) = omega arith in (
+    let rest = ties (a .theta) (l .left - o .result) (drop (l .i + 1) ks) in (
       omega arith,
       simp length-set (l .inv .1),
       (λ j h. rw (getD-set-other (l .out) (l .i) j (getD (l .out) (l .i) 0 + o .result) 0 (omega arith)) (l .inv .2 j (omega arith))),
-      turn-added (l .out) (ties (a .theta) (l .left) (drop (l .i) (a .keys .now))) (ties (a .theta) (l .left - o .result) (drop (l .i + 1) (a .keys .now))) (added (a .out .now) (ties (a .theta) (a .spare) (a .keys .now))) (l .i) (o .result) (omega arith)
-          (ap (ties (a .theta) (l .left)) (next-drop (a .keys .now) (l .i) hk) ∙ ties-next (a .theta) (l .left) (getD (a .keys .now) (l .i) 0) (o .result) (drop (l .i + 1) (a .keys .now)) (omega arith) (o .ensures)) (l .inv .3),
+      turn-added (l .out) (ties (a .theta) (l .left) (drop (l .i) ks)) rest (added (a .out .now) (ties (a .theta) (a .spare) ks)) (l .i) (o .result) (omega arith)
+          (ap (ties (a .theta) (l .left)) (next-drop ks (l .i) (omega arith)) ∙ ties-next (a .theta) (l .left) (getD ks (l .i) 0) (o .result) (drop (l .i + 1) ks) (omega arith) (o .ensures))
+          (l .inv .3),
     )
 
 same-length-2 : tie.Need-same-length-2 Inv-loop μ-loop
