@@ -1,5 +1,6 @@
 -- Counts of the keys that reach a number. Assumes nothing.
 use mathlib.Core.Path.{_≡_, refl}
+use mathlib.Core.Bool.{Bool, true, false}
 use mathlib.Core.List.{List, [], _∷_, _++_}
 use mathlib.Core.Logic.{_⊎_, inl, inr}
 use Prim.Native.Nat.{ℕ, _+_, _≤_, _<_, min, max}
@@ -12,6 +13,10 @@ use Rattle.apportion.specs.Shares.{bit, atLeast}
 use Rattle.apportion.specs.Selection.{largest, Counted}
 
 -- ---- a test's bit
+pub bit-le : (b : Bool) → bit b ≤ 1
+bit-le true = omega arith
+bit-le false = omega arith
+
 pub bit-yes : (m k : ℕ) → m ≤ k → bit (leb m k) ≡ 1
 bit-yes m k h = rw (le-leb m k h)
 
@@ -42,7 +47,10 @@ pub past-largest : (m : ℕ) (ks : List ℕ) → largest ks < m → atLeast m ks
 past-largest m [] h = refl
 past-largest m (k ∷ ks) h = omega (arith, past-largest m ks (omega arith), bit-no m k (omega arith))
 
-count-snoc : (m : ℕ) (ks : List ℕ) (k : ℕ) → atLeast m (ks ++ (k ∷ [])) ≡ atLeast m ks + bit (leb m k)
+pub largest-positive : (ks : List ℕ) → 0 < atLeast 1 ks → 0 < largest ks
+largest-positive ks h = elim (decLe 1 (largest ks)) [ yes g ↦ g | no g ↦ absurd (omega (arith, past-largest 1 ks (omega arith))) ]
+
+pub count-snoc : (m : ℕ) (ks : List ℕ) (k : ℕ) → atLeast m (ks ++ (k ∷ [])) ≡ atLeast m ks + bit (leb m k)
 count-snoc m [] k = omega arith
 count-snoc m (j ∷ ks) k = omega (arith, count-snoc m ks k)
 

@@ -7,7 +7,6 @@ use native.Mathlib.Omega.{arith}
 use lib.ListN.{length, getD, take, drop, set, drop-of-length-le}
 use lib.Seq.{drop-cons, take-suc, take-suc-set, append-snoc, take-all, drop-set-lt}
 use Rattle.apportion.specs.Shares.{added}
-use Rattle.apportion.specs.Selection.{one, spareAfter, given}
 
 pub next-drop : (xs : List ℕ) (i : ℕ) → i < length xs → drop i xs ≡ getD xs i 0 ∷ drop (i + 1) xs
 next-drop xs i h = rw (add-one, drop-cons xs i 0)
@@ -29,14 +28,12 @@ pub turn-map : (f : ℕ → ℕ) (ws out g : List ℕ) (i v : ℕ) → i < lengt
 turn-map f ws out g i v hw ho e p =
     stored out i v (map f (drop (i + 1) ws)) ho ∙ ap (λ (x : ℕ). take i out ++ (x ∷ map f (drop (i + 1) ws))) e ∙ ap (λ (r : List ℕ). take i out ++ map f r) (sym (next-drop ws i hw)) ∙ p
 
--- one more item given its part of the leftover
-pub turn-given : (θ s : ℕ) (ks out g : List ℕ) (i b t : ℕ) → i < length ks → i < length out → b ≡ one θ s (getD ks i 0) → t ≡ spareAfter θ s (getD ks i 0)
-    → take i out ++ added (drop i out) (given θ s (drop i ks)) ≡ g
-    → take (i + 1) (set out i (getD out i 0 + b)) ++ added (drop (i + 1) (set out i (getD out i 0 + b))) (given θ t (drop (i + 1) ks)) ≡ g
-turn-given θ s ks out g i b t hk ho eb et p =
+-- one more item given its part of a list
+pub turn-added : (out gs rest g : List ℕ) (i b : ℕ) → i < length out → gs ≡ b ∷ rest → take i out ++ added (drop i out) gs ≡ g
+    → take (i + 1) (set out i (getD out i 0 + b)) ++ added (drop (i + 1) (set out i (getD out i 0 + b))) rest ≡ g
+turn-added out gs rest g i b h e p =
     let x = getD out i 0 in
-    stored out i (x + b) (added (drop (i + 1) (set out i (x + b))) (given θ t (drop (i + 1) ks))) ho
-    ∙ ap (λ (r : List ℕ). take i out ++ ((x + b) ∷ added r (given θ t (drop (i + 1) ks)))) (drop-set-lt (i + 1) out i (x + b) (omega arith))
-    ∙ ap₂ (λ (y : ℕ) (z : ℕ). take i out ++ ((x + y) ∷ added (drop (i + 1) out) (given θ z (drop (i + 1) ks)))) eb et
-    ∙ ap₂ (λ (r : List ℕ) (q : List ℕ). take i out ++ added r (given θ s q)) (sym (next-drop out i ho)) (sym (next-drop ks i hk))
+    stored out i (x + b) (added (drop (i + 1) (set out i (x + b))) rest) h
+    ∙ ap (λ (r : List ℕ). take i out ++ ((x + b) ∷ added r rest)) (drop-set-lt (i + 1) out i (x + b) (omega arith))
+    ∙ ap₂ (λ (r : List ℕ) (q : List ℕ). take i out ++ added r q) (sym (next-drop out i h)) (sym e)
     ∙ p

@@ -2,8 +2,9 @@
 use mathlib.Core.Bool.{Bool, true, false}
 use mathlib.Core.Path.{_≡_}
 use mathlib.Core.List.{List, [], _∷_, _++_, map}
-use Prim.Native.Nat.{ℕ, suc, _+_, _-_, _≤_, max}
-use lib.Dec.{leb, ltb}
+use Prim.Native.Nat.{ℕ, suc, _+_, _-_, _≤_, _<_, max}
+use lib.Dec.{leb, ltb, eqb}
+use lib.ListN.{length, take}
 use Rattle.apportion.specs.Shares.{sum, quota, remainder, bit, atLeast}
 
 -- the largest key, 0 if there is none
@@ -37,6 +38,23 @@ CountedWith m k count below above count′ below′ above′ =
 abbrev pub Threshold : ℕ → ℕ → List ℕ → Type 0
 Threshold left θ ks = (atLeast (suc θ) ks ≤ left) × (left ≤ atLeast θ ks)
 
+-- the key before the others, if it reaches the bracket but doesn't lie above it
+abbrev pub keep : Bool → Bool → ℕ → List ℕ → List ℕ
+keep false b k ks = ks
+keep true true k ks = ks
+keep true false k ks = k ∷ ks
+
+-- the keys from lo up to hi, in their order
+abbrev pub inside : ℕ → ℕ → List ℕ → List ℕ
+inside lo hi [] = []
+inside lo hi (k ∷ ks) = keep (leb lo k) (leb hi k) k (inside lo hi ks)
+
+-- the keys above a bracket counted, and those in it counted and, while there is room, written one after the other
+pub record Collected (lo hi above within : ℕ) (near ks : List ℕ) : Type 0 where
+  pub is-above : above ≡ atLeast hi ks
+  pub is-within : within ≡ length (inside lo hi ks)
+  pub is-near : within < 128 → take within near ≡ inside lo hi ks
+
 -- x above θ, y at θ, z below it
 abbrev pub choose : Bool → Bool → ℕ → ℕ → ℕ → ℕ
 choose true b x y z = x
@@ -53,3 +71,13 @@ spareAfter θ spare k = choose (leb (suc θ) k) (leb θ k) spare (spare - 1) spa
 abbrev pub given : ℕ → ℕ → List ℕ → List ℕ
 given θ spare [] = []
 given θ spare (k ∷ ks) = one θ spare k ∷ given θ (spareAfter θ spare k) ks
+
+-- one for a key that equals θ
+abbrev pub tie : Bool → ℕ → ℕ
+tie true spare = bit (ltb 0 spare)
+tie false spare = 0
+
+-- one for a key at θ while there is one to spare, none for a key above
+abbrev pub ties : ℕ → ℕ → List ℕ → List ℕ
+ties θ spare [] = []
+ties θ spare (k ∷ ks) = tie (eqb k θ) spare ∷ ties θ (spare - tie (eqb k θ) spare) ks

@@ -1,10 +1,11 @@
 // Who gets the leftover: without sorting, by a threshold that separates those who do from those who don't.
 ghost use mathlib.Core.Path.{_≡_};
 ghost use mathlib.Core.List.{[]};
+ghost use mathlib.Core.Bool.{true};
 ghost use Prim.Native.Nat.{ℕ, suc, _+_, _-_, _^_, _≤_, _<_, min};
 ghost use lib.ListN.{length, getD};
-ghost use Rattle.apportion.specs.Shares.{atLeast, extras, added};
-ghost use Rattle.apportion.specs.Selection.{largest, Counted, CountedWith, Threshold, one, spareAfter, given};
+ghost use Rattle.apportion.specs.Shares.{bit, atLeast, extras, added};
+ghost use Rattle.apportion.specs.Selection.{largest, Counted, CountedWith, Threshold, Collected, given, ties};
 use super::quotas::larger;
 
 // How many keys reach a number m. No key lies from `below` up to m, nor from m up to `above`.
@@ -56,7 +57,7 @@ fn count_around(keys: &[u64], m: u64, lo: u64, hi: u64) -> Count
     c
 }
 
-fn inside(lo: u64, hi: u64, x: u64) -> u64
+fn between(lo: u64, hi: u64, x: u64) -> u64
     requires { ⌜ lo + 1 < hi ⌝ }
     ensures { λ r. ⌜ (lo < r) × (r < hi) ⌝ }
 {
@@ -78,7 +79,7 @@ fn guess(lo: u64, hi: u64, among: u64, wanted: u64, turn: u64) -> u64
     if 6 <= turn {
         return lo + (hi - lo) / 2;
     }
-    inside(lo, hi, hi - (hi - lo) / among * wanted)
+    between(lo, hi, hi - (hi - lo) / among * wanted)
 }
 
 // A threshold, and how many are to be spared for the keys that equal it.
@@ -87,14 +88,16 @@ pub struct Cut {
     pub spare: u64,
 }
 
-// Narrows a bracket around the threshold, from 0 to past the largest key, until a count is the one wanted or the bracket holds one number.
-fn threshold(keys: &[u64], left: u64, top: u64) -> Cut
-    requires { ⌜ (0 < left) × (left ≤ length (now keys)) × (top ≡ largest (now keys)) × (top < 2 ^ 62) ⌝ }
+// Narrows a bracket around the threshold, until a count is the one wanted or the bracket holds one number. `reach` keys reach its lower
+// end, none its upper one.
+fn narrow(keys: &[u64], left: u64, from: u64, to: u64, reach: u64) -> Cut
+    requires { ⌜ (from < to) × (reach ≡ atLeast from (now keys)) × (atLeast to (now keys) ≡ 0) × (0 < left) × (left ≤ reach) ⌝ }
     ensures { λ r. ⌜ (Threshold left (r .theta) (now (keys .entry))) × (r .spare ≡ left - atLeast (suc (r .theta)) (now (keys .entry))) ⌝ }
+    ensures { λ r. ⌜ (from ≤ r .theta) × (r .theta < to) ⌝ }
 {
-    let mut lo: u64 = 0;
-    let mut hi = top + 1;
-    let mut reach_lo = keys.len() as u64;
+    let mut lo = from;
+    let mut hi = to;
+    let mut reach_lo = reach;
     let mut reach_hi: u64 = 0;
     let mut turn: u64 = 0;
     while 1 < hi - lo {
@@ -121,49 +124,145 @@ fn threshold(keys: &[u64], left: u64, top: u64) -> Cut
     }
 }
 
-struct Turn {
-    one: u32,
-    spare: u64,
+fn one_if(b: bool) -> u64
+    ensures { λ r. ⌜ r ≡ bit b ⌝ }
+{
+    if b { 1 } else { 0 }
 }
 
-fn gift(theta: u64, spare: u64, k: u64) -> Turn
-    ensures { λ g. ⌜ (g .one ≡ one theta spare k) × (g .spare ≡ spareAfter theta spare k) ⌝ }
-{
-    if theta < k {
-        return Turn { one: 1, spare };
-    }
-    if theta <= k {
-        if 0 < spare {
-            return Turn {
-                one: 1,
-                spare: spare - 1,
-            };
-        }
-    }
-    Turn { one: 0, spare }
+// How many keys lie above a bracket, and how many in it.
+pub struct Split {
+    pub above: u64,
+    pub within: u64,
 }
 
-// One more for each key above theta, and for the earliest of those at theta while there is one to spare.
-fn give(keys: &[u64], theta: u64, spare: u64, out: &mut [u32])
-    requires { ⌜ (length (now out) ≡ length (now keys)) × ((j : ℕ) → getD (now out) j 0 < 2 ^ 32 - 1) ⌝ }
-    ensures { λ r. ⌜ now (out .exit) ≡ added (now (out .entry)) (given theta spare (now (keys .entry))) ⌝ }
+// Writes the keys from lo up to hi one after the other; if there are 128 or more, `near` is of no use. Which keys these are can't be
+// foreseen, so there is no branch: each key is written, and some stay.
+fn collect(keys: &[u64], lo: u64, hi: u64, near: &mut [u64]) -> Split
+    requires { ⌜ (lo ≤ hi) × (length (now near) ≡ 128) ⌝ }
+    ensures { λ r. ⌜ Collected lo hi (r .above) (r .within) (now (near .exit)) (now (keys .entry)) ⌝ }
 {
-    let mut left = spare;
+    let mut above: u64 = 0;
+    let mut within: u64 = 0;
     let mut i = 0;
     while i < keys.len() {
-        let g = gift(theta, left, keys[i]);
-        out[i] += g.one;
-        left = g.spare;
+        let k = keys[i];
+        near[(within % 128) as usize] = k;
+        let past = one_if(hi <= k);
+        within += one_if(lo <= k) - past;
+        above += past;
+        i += 1;
+    }
+    Split { above, within }
+}
+
+struct Bracket {
+    lo: u64,
+    hi: u64,
+}
+
+// Where the threshold most likely lies, the positive keys being mostly spread evenly up to the largest.
+fn around(left: u64, top: u64, positive: u64) -> Bracket
+    requires { ⌜ (0 < left) × (left ≤ positive) × (24 ≤ positive) × (top < 2 ^ 62) ⌝ }
+    ensures { λ r. ⌜ (1 ≤ r .lo) × (r .lo ≤ r .hi) × (r .hi ≤ top + 1) ⌝ }
+{
+    let step = top / positive;
+    let middle = top - step * left;
+    let spread = step * (8 + positive / 32);
+    Bracket {
+        lo: middle - smaller(middle, spread) + 1,
+        hi: smaller(middle + spread, top) + 1,
+    }
+}
+
+// Whether the threshold lies in a bracket, and the keys in it have all been written.
+fn caught(p: Split, left: u64) -> bool
+    ensures { λ r. ⌜ (r ≡ true → (p .within < 128) × (p .above < left) × (left ≤ p .above + p .within)) ⌝ }
+{
+    if 128 <= p.within {
+        return false;
+    }
+    if left <= p.above {
+        return false;
+    }
+    left - p.above <= p.within
+}
+
+fn threshold_of_all(keys: &[u64], left: u64, top: u64, positive: u64) -> Cut
+    requires { ⌜ (0 < left) × (left ≤ positive) × (positive ≡ atLeast 1 (now keys)) × (top ≡ largest (now keys)) × (top < 2 ^ 62) ⌝ }
+    ensures { λ r. ⌜ (Threshold left (r .theta) (now (keys .entry))) × (r .spare ≡ left - atLeast (suc (r .theta)) (now (keys .entry))) ⌝ }
+{
+    narrow(keys, left, 1, top + 1, positive)
+}
+
+// The threshold from the keys near it where that can be done, else from all keys.
+fn threshold_near(keys: &[u64], left: u64, top: u64, positive: u64, near: &mut [u64]) -> Cut
+    requires { ⌜ (0 < left) × (left ≤ positive) × (positive ≡ atLeast 1 (now keys)) × (top ≡ largest (now keys)) × (top < 2 ^ 62) ⌝ }
+    requires { ⌜ (24 ≤ positive) × (length (now near) ≡ 128) ⌝ }
+    ensures { λ r. ⌜ (Threshold left (r .theta) (now (keys .entry))) × (r .spare ≡ left - atLeast (suc (r .theta)) (now (keys .entry))) ⌝ }
+{
+    let b = around(left, top, positive);
+    let p = collect(keys, b.lo, b.hi, near);
+    if !caught(p, left) {
+        return threshold_of_all(keys, left, top, positive);
+    }
+    narrow(
+        &near[..p.within as usize],
+        left - p.above,
+        b.lo,
+        b.hi,
+        p.within,
+    )
+}
+
+fn threshold(keys: &[u64], left: u64, top: u64, positive: u64) -> Cut
+    requires { ⌜ (0 < left) × (left ≤ positive) × (positive ≡ atLeast 1 (now keys)) × (top ≡ largest (now keys)) × (top < 2 ^ 62) ⌝ }
+    ensures { λ r. ⌜ (Threshold left (r .theta) (now (keys .entry))) × (r .spare ≡ left - atLeast (suc (r .theta)) (now (keys .entry))) ⌝ }
+{
+    if positive < 24 {
+        return threshold_of_all(keys, left, top, positive);
+    }
+    let mut near = [0u64; 128];
+    threshold_near(keys, left, top, positive, &mut near)
+}
+
+// One more for each key above theta.
+fn give_above(keys: &[u64], theta: u64, out: &mut [u32])
+    requires { ⌜ (length (now out) ≡ length (now keys)) × ((j : ℕ) → getD (now out) j 0 < 2 ^ 32 - 1) ⌝ }
+    ensures { λ r. ⌜ now (out .exit) ≡ added (now (out .entry)) (given theta 0 (now (keys .entry))) ⌝ }
+{
+    let mut i = 0;
+    while i < keys.len() {
+        out[i] += one_if(theta < keys[i]) as u32;
         i += 1;
     }
 }
 
-// The leftover goes one each to the largest keys, ties to the earlier item.
-pub(crate) fn give_leftover(left: u64, top: u64, keys: &[u64], out: &mut [u32])
-    requires { ⌜ (0 < left) × (left ≤ length (now keys)) × (top ≡ largest (now keys)) × (top < 2 ^ 62) ⌝ }
+// One more for the earliest of the keys at theta, while there is one to spare.
+fn give_ties(keys: &[u64], theta: u64, spare: u64, out: &mut [u32])
     requires { ⌜ (length (now out) ≡ length (now keys)) × ((j : ℕ) → getD (now out) j 0 < 2 ^ 32 - 1) ⌝ }
+    ensures { λ r. ⌜ now (out .exit) ≡ added (now (out .entry)) (ties theta spare (now (keys .entry))) ⌝ }
+{
+    let mut left = spare;
+    let mut i = 0;
+    while i < keys.len() {
+        if left == 0 {
+            return;
+        }
+        let one = one_if(keys[i] == theta);
+        out[i] += one as u32;
+        left -= one;
+        i += 1;
+    }
+}
+
+// The leftover goes one each to the largest keys, ties to the earlier item. `positive` keys are not 0.
+pub(crate) fn give_leftover(left: u64, top: u64, positive: u64, keys: &[u64], out: &mut [u32])
+    requires { ⌜ (0 < left) × (left ≤ positive) × (positive ≡ atLeast 1 (now keys)) × (top ≡ largest (now keys)) × (top < 2 ^ 62) ⌝ }
+    requires { ⌜ (length (now out) ≡ length (now keys)) × ((j : ℕ) → getD (now out) j 0 < 2 ^ 32 - 2) ⌝ }
     ensures { λ r. ⌜ now (out .exit) ≡ added (now (out .entry)) (extras left [] (now (keys .entry))) ⌝ }
 {
-    let cut = threshold(keys, left, top);
-    give(keys, cut.theta, cut.spare, out);
+    let cut = threshold(keys, left, top, positive);
+    give_above(keys, cut.theta, out);
+    give_ties(keys, cut.theta, cut.spare, out);
 }

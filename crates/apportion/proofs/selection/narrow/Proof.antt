@@ -1,32 +1,28 @@
--- `threshold` meets its contract: at least `left` keys reach the bracket's lower end, and fewer its upper end.
-use Rattle.apportion.proofs.Counting.{antitone, at-zero, past-largest, above-under, below-over}
+-- `narrow` meets its contract: at least `left` keys reach the bracket's lower end, and fewer its upper end.
+use Rattle.apportion.proofs.Counting.{antitone, above-under, below-over}
 use mathlib.Core.Path.{_≡_, ap}
 use Prim.Native.Nat.{ℕ, suc, _+_, _-_, _≤_, _<_}
 use native.Mathlib.Omega.{arith}
 use Rattle.apportion.specs.Shares.{atLeast}
-use Rattle.apportion.proofs.selection.threshold.Statement.{statement}
-use Rattle.apportion.proofs.selection.threshold.Tie as tie
+use Rattle.apportion.proofs.selection.narrow.Statement.{statement}
+use Rattle.apportion.proofs.selection.narrow.Tie as tie
 
 abbrev Inv-loop : tie.InvT-loop
-Inv-loop keys left top lo₀ hi₀ reach-lo₀ reach-hi₀ turn₀ lo hi reach-lo reach-hi turn =
+Inv-loop keys left from to reach lo₀ hi₀ reach-lo₀ reach-hi₀ turn₀ lo hi reach-lo reach-hi turn =
     (lo < hi)
-    × (turn + (hi - lo) ≤ top + 1)
-    × (hi ≤ top + 1)
+    × (turn + (hi - lo) ≤ to - from)
+    × (from ≤ lo)
+    × (hi ≤ to)
     × (reach-lo ≡ atLeast lo keys)
     × (reach-hi ≡ atLeast hi keys)
     × (reach-hi < left)
     × (left ≤ reach-lo)
 
 abbrev μ-loop : tie.MeasureT-loop
-μ-loop keys left top lo₀ hi₀ reach-lo₀ reach-hi₀ turn₀ lo hi reach-lo reach-hi turn = hi - lo
-
-add-hi : tie.Need-add-hi Inv-loop μ-loop
-add-hi c = omega arith
+μ-loop keys left from to reach lo₀ hi₀ reach-lo₀ reach-hi₀ turn₀ lo hi reach-lo reach-hi turn = hi - lo
 
 loop-holds : tie.Need-loop-holds Inv-loop μ-loop
-loop-holds c =
-    let a = c .before .args in
-    omega (arith, at-zero (a .keys .now), past-largest (a .top + 1) (a .keys .now) (omega arith))
+loop-holds c = omega arith
 
 sub-loop : tie.Need-sub-loop Inv-loop μ-loop
 sub-loop c = omega arith
@@ -46,8 +42,8 @@ count-around-requires c κs = omega arith
 add-turn : tie.Need-add-turn Inv-loop μ-loop
 add-turn c = omega arith
 
-sub-t15 : tie.Need-sub-t15 Inv-loop μ-loop
-sub-t15 c = omega arith
+sub-t16 : tie.Need-sub-t16 Inv-loop μ-loop
+sub-t16 c = omega arith
 
 returns : tie.Need-returns Inv-loop μ-loop
 returns c =
@@ -98,8 +94,8 @@ loop-again-2 c =
     let h = below-over (k .before .guess .result) 0 (l .loop .lo) (l .loop .hi) (o .result .count) (o .result .below) (o .result .above) (a .keys .now) e (omega (arith, e .is-count)) in
     omega (arith, e .is-count, e .same-above, e .same-below, e .below-le, e .le-above, e .lo-le, e .le-hi)
 
-sub-t16 : tie.Need-sub-t16 Inv-loop μ-loop
-sub-t16 c = omega arith
+sub-t17 : tie.Need-sub-t17 Inv-loop μ-loop
+sub-t17 c = omega arith
 
 returns-2 : tie.Need-returns-2 Inv-loop μ-loop
 returns-2 c =
@@ -108,13 +104,12 @@ returns-2 c =
     let e : suc (l .lo) ≡ l .hi = omega arith in
     omega (arith, ap (λ (x : ℕ). atLeast x keys) e)
 
-pub threshold-spec : {M : Type 1} → statement M
-threshold-spec =
+pub narrow-spec : {M : Type 1} → statement M
+narrow-spec =
     tie.close
     (tie.spec
     Inv-loop
     μ-loop
-    add-hi
     loop-holds
     sub-loop
     sub-guess
@@ -122,11 +117,11 @@ threshold-spec =
     guess-requires
     count-around-requires
     add-turn
-    sub-t15
+    sub-t16
     returns
     loop-less
     loop-again
     loop-less-2
     loop-again-2
-    sub-t16
+    sub-t17
     returns-2)
