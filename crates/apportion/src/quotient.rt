@@ -7,19 +7,21 @@ pub struct Division {
     pub remainder: u64,
 }
 
-// The product is cut at bit 30. The quotient is first taken by the divisor's upper part plus one, which gives no more
+// The product is cut at bit 31. The quotient is first taken by the divisor's upper part plus one, which gives no more
 // than the true one, and is then counted up; a divisor near 2^62 leaves only a few steps.
 fn divided(t: u64, w: u64, whole: u64) -> Division
     requires { ⌜ (t < 2 ^ 32) × (w ≤ whole) × (0 < whole) × (whole < 2 ^ 62) ⌝ }
     ensures { λ o. ⌜ (o .quotient * whole + o .remainder ≡ t * w) × (o .remainder < whole) ⌝ }
 {
-    let part = t * (w % 0x4000_0000);
-    let a = t * (w >> 30) + (part >> 30);
-    let d = (whole >> 30) + 1;
-    let mut q = a / d;
-    let mut r = (a % d) * 0x4000_0000
-        + part % 0x4000_0000
-        + q * (0x4000_0000 - whole % 0x4000_0000);
+    let part = t * (w % 0x8000_0000);
+    let a = t * (w >> 31) + (part >> 31);
+    let d = (whole >> 31) + 1;
+    // The dividend has more than 32 bits for every weight, 0 too: the machine's division then goes one way always.
+    let wide = a + d * 0x1_0000_0000;
+    let mut q = wide / d - 0x1_0000_0000;
+    let mut r = (wide % d) * 0x8000_0000
+        + part % 0x8000_0000
+        + q * (0x8000_0000 - whole % 0x8000_0000);
     while r >= whole {
         r -= whole;
         q += 1;

@@ -8,10 +8,10 @@ use Rattle.apportion.proofs.quotient.divided.Statement.{statement}
 use Rattle.apportion.proofs.quotient.divided.Tie as tie
 
 abbrev Inv-loop : tie.InvT-loop
-Inv-loop t w whole part a d q₀ r₀ q r = (q * whole + r ≡ t * w) × (q + r < 2 ^ 64)
+Inv-loop t w whole part a d wide q₀ r₀ q r = (q * whole + r ≡ t * w) × (q + r < 2 ^ 64)
 
 abbrev μ-loop : tie.MeasureT-loop
-μ-loop t w whole part a d q₀ r₀ q r = r
+μ-loop t w whole part a d wide q₀ r₀ q r = r
 
 mul-part : tie.Need-mul-part Inv-loop μ-loop
 mul-part c = omega (arith, wide (c .args .t) (c .args .w) (c .args .whole) (c .pre))
@@ -25,8 +25,17 @@ add-a c = omega (arith, wide (c .args .t) (c .args .w) (c .args .whole) (c .pre)
 add-d : tie.Need-add-d Inv-loop μ-loop
 add-d c = omega arith
 
+mul-wide : tie.Need-mul-wide Inv-loop μ-loop
+mul-wide c = omega arith
+
+add-wide : tie.Need-add-wide Inv-loop μ-loop
+add-wide c = omega (arith, wide (c .args .t) (c .args .w) (c .args .whole) (c .pre))
+
 div-q : tie.Need-div-q Inv-loop μ-loop
 div-q c = omega arith
+
+sub-q : tie.Need-sub-q Inv-loop μ-loop
+sub-q c = omega (arith, wide (c .args .t) (c .args .w) (c .args .whole) (c .pre))
 
 rem-r : tie.Need-rem-r Inv-loop μ-loop
 rem-r c = omega arith
@@ -71,7 +80,10 @@ divided-spec =
     mul-a
     add-a
     add-d
+    mul-wide
+    add-wide
     div-q
+    sub-q
     rem-r
     mul-r
     add-r
