@@ -31,7 +31,7 @@ added-none xs ys = ap (added xs) (no-extras [] ys) ∙ zeros xs (length ys)
     zeros (x ∷ xs) ℕ.zero = refl
     zeros (x ∷ xs) (suc n) = ap₂ (λ (y : ℕ) (ys : List ℕ). y ∷ ys) {y = x} (omega arith) (zeros xs n)
 
-module _ (total : ℕ) {down top : ℕ} (ws : List ℕ) {rests out : List ℕ} (fair : sum ws ≡ 0 → total ≡ 0) (d : RoundedDown total (max 1 (sum ws)) ws down top rests out) where
+module _ (total : ℕ) {down top positive : ℕ} (ws : List ℕ) {rests out : List ℕ} (fair : sum ws ≡ 0 → total ≡ 0) (d : RoundedDown total (max 1 (sum ws)) ws down top positive rests out) where
   abbrev whole : ℕ
   whole = max 1 (sum ws)
 

@@ -12,12 +12,13 @@ abbrev pub largest : List ℕ → ℕ
 largest [] = 0
 largest (k ∷ ks) = max k (largest ks)
 
--- the quotas, the remainders, the quotas' sum and the largest remainder
-pub record RoundedDown (total whole : ℕ) (ws : List ℕ) (down top : ℕ) (rests out : List ℕ) : Type 0 where
+-- the quotas, the remainders, the quotas' sum, the largest remainder and the number of remainders above 0
+pub record RoundedDown (total whole : ℕ) (ws : List ℕ) (down top positive : ℕ) (rests out : List ℕ) : Type 0 where
   pub is-quotas : out ≡ map (quota total whole) ws
   pub is-remainders : rests ≡ map (remainder total whole) ws
   pub is-sum : down ≡ sum (map (quota total whole) ws)
   pub is-largest : top ≡ largest (map (remainder total whole) ws)
+  pub is-positive : positive ≡ atLeast 1 (map (remainder total whole) ws)
 
 -- A count of the keys that reach m. No key lies from `below` up to m, nor from m up to `above`: the same keys reach all three.
 pub record Counted (m lo hi count below above : ℕ) (ks : List ℕ) : Type 0 where

@@ -2,7 +2,7 @@
 ghost use mathlib.Core.Path.{_≡_};
 ghost use Prim.Native.Nat.{_^_, _≤_, _<_, max};
 ghost use lib.ListN.{length};
-ghost use Rattle.apportion.specs.Shares.{sum};
+ghost use Rattle.apportion.specs.Shares.{sum, bit};
 ghost use Rattle.apportion.specs.Selection.{RoundedDown};
 use super::quotient::mul_div;
 
@@ -25,10 +25,17 @@ pub(crate) fn larger(a: u64, b: u64) -> u64
     if a < b { b } else { a }
 }
 
-// The sum of the quotas, and the largest remainder.
+pub(crate) fn one_if(b: bool) -> u64
+    ensures { λ r. ⌜ r ≡ bit b ⌝ }
+{
+    if b { 1 } else { 0 }
+}
+
+// The sum of the quotas, the largest remainder, and how many remainders are above 0.
 pub struct Down {
     pub sum: u64,
     pub largest: u64,
+    pub positive: u64,
 }
 
 // Writes the quotas and the remainders.
@@ -41,10 +48,11 @@ pub(crate) fn round_down(
 ) -> Down
     requires { ⌜ (total < 2 ^ 32) × (0 < whole) × (whole < 2 ^ 62) × (sum (now ws) ≤ whole) ⌝ }
     requires { ⌜ (length (now rests) ≡ length (now ws)) × (length (now out) ≡ length (now ws)) ⌝ }
-    ensures { λ r. ⌜ RoundedDown total whole (now (ws .entry)) (r .sum) (r .largest) (now (rests .exit)) (now (out .exit)) ⌝ }
+    ensures { λ r. ⌜ RoundedDown total whole (now (ws .entry)) (r .sum) (r .largest) (r .positive) (now (rests .exit)) (now (out .exit)) ⌝ }
 {
     let mut down: u64 = 0;
     let mut top: u64 = 0;
+    let mut positive: u64 = 0;
     let mut i = 0;
     while i < ws.len() {
         let o = mul_div(total, ws[i], whole);
@@ -52,10 +60,12 @@ pub(crate) fn round_down(
         out[i] = o.quotient as u32;
         down += o.quotient;
         top = larger(top, o.remainder);
+        positive += one_if(0 < o.remainder);
         i += 1;
     }
     Down {
         sum: down,
         largest: top,
+        positive,
     }
 }

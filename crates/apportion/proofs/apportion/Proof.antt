@@ -14,12 +14,12 @@ use Rattle.apportion.proofs.apportion.Tie as tie
 rounded : (r : tie.After-round-down)
     → let a = r .before .before .before .before .before .before .before .before .args in
     let l = r .round-down .last in
-    RoundedDown (a .total) (max 1 (sum (a .ws .now))) (a .ws .now) (r .round-down .result .sum) (r .round-down .result .largest) (l .1 .1 .1 .0) (l .1 .1 .1 .1 .0)
+    RoundedDown (a .total) (max 1 (sum (a .ws .now))) (a .ws .now) (r .round-down .result .sum) (r .round-down .result .largest) (r .round-down .result .positive) (l .1 .1 .1 .0) (l .1 .1 .1 .1 .0)
 rounded r =
     let a = r .before .before .before .before .before .before .before .before .args in
     let l = r .round-down .last in
     let e = r .before .before .before .larger .ensures ∙ ap (max 1) (r .before .before .before .before .sum-of .ensures) in
-    subst (λ (w : ℕ). RoundedDown (a .total) w (a .ws .now) (r .round-down .result .sum) (r .round-down .result .largest) (l .1 .1 .1 .0) (l .1 .1 .1 .1 .0)) e (r .round-down .ensures)
+    subst (λ (w : ℕ). RoundedDown (a .total) w (a .ws .now) (r .round-down .result .sum) (r .round-down .result .largest) (r .round-down .result .positive) (l .1 .1 .1 .0) (l .1 .1 .1 .1 .0)) e (r .round-down .ensures)
 
 sum-of-requires : tie.Need-sum-of-requires
 sum-of-requires c κs = search needs
