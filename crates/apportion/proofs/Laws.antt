@@ -18,7 +18,7 @@ pub all-zero : (f : ℕ → ℕ) → ((w : ℕ) → f w ≡ 0) → (ws : List �
 all-zero f z [] = refl
 all-zero f z (w ∷ ws) = ap₂ (λ (x : ℕ) (xs : List ℕ). x ∷ xs) (z w) (all-zero f z ws)
 
-pub quota-zero : (whole w : ℕ) → quota 0 whole w ≡ 0
+quota-zero : (whole w : ℕ) → quota 0 whole w ≡ 0
 quota-zero whole w = ap (λ (x : ℕ). x / whole) (zero-mul w) ∙ zero-div whole
 
 pub remainder-zero : (whole w : ℕ) → remainder 0 whole w ≡ 0

@@ -4,7 +4,7 @@ use mathlib.Core.List.{List, [], _∷_, _++_, map, append-nil}
 use Prim.Native.Nat.{ℕ, _+_, _≤_, _<_}
 use native.Mathlib.Numerals.{add-one}
 use native.Mathlib.Omega.{arith}
-use lib.ListN.{length, getD, take, drop, set, drop-of-length-le}
+use lib.ListN.{length, getD, take, drop, set, replicate, drop-of-length-le, replicate-append-replicate}
 use lib.Seq.{drop-cons, take-suc, take-suc-set, append-snoc, take-all, drop-set-lt}
 use Rattle.apportion.specs.Shares.{added}
 
@@ -27,6 +27,14 @@ pub turn-map : (f : ℕ → ℕ) (ws out g : List ℕ) (i v : ℕ) → i < lengt
     → take i out ++ map f (drop i ws) ≡ g → take (i + 1) (set out i v) ++ map f (drop (i + 1) ws) ≡ g
 turn-map f ws out g i v hw ho e p =
     stored out i v (map f (drop (i + 1) ws)) ho ∙ ap (λ (x : ℕ). take i out ++ (x ∷ map f (drop (i + 1) ws))) e ∙ ap (λ (r : List ℕ). take i out ++ map f r) (sym (next-drop ws i hw)) ∙ p
+
+-- one more item made 0, and all of them
+pub turn-zero : (xs : List ℕ) (i : ℕ) → i < length xs → take i xs ≡ replicate i 0 → take (i + 1) (set xs i 0) ≡ replicate (i + 1) 0
+turn-zero xs i h p =
+    ap (λ (k : ℕ). take k (set xs i 0)) (add-one i) ∙ take-suc-set xs i 0 h ∙ ap (λ (r : List ℕ). r ++ (0 ∷ [])) p ∙ replicate-append-replicate i 1 0
+
+pub whole-zero : (xs : List ℕ) (i n : ℕ) → i ≡ n → length xs ≡ n → take i xs ≡ replicate i 0 → xs ≡ replicate n 0
+whole-zero xs i n e l p = sym (take-all i xs (omega arith)) ∙ p ∙ ap (λ (k : ℕ). replicate k 0) e
 
 -- one more item given its part of a list
 pub turn-added : (out gs rest g : List ℕ) (i b : ℕ) → i < length out → gs ≡ b ∷ rest → take i out ++ added (drop i out) gs ≡ g

@@ -14,12 +14,17 @@ pub fn apportion(total: u64, ws: &[u64], scratch: &mut [u64], out: &mut [u32])
     requires { ⌜ (length (now scratch) ≡ length (now ws)) × (length (now out) ≡ length (now ws)) ⌝ }
     ensures { λ r. ⌜ (now (out .exit) ≡ shares total (now (ws .entry))) × (now (scratch .exit) ≡ remainders total (now (ws .entry))) ⌝ }
 {
-    // Weights that are all 0 divide nothing, by any divisor.
-    let whole = quotas::larger(1, quotas::sum_of(ws));
+    // Many totals are 0. The weights of any other have a sum above 0.
+    if total == 0 {
+        quotas::no_remainders(scratch);
+        quotas::no_quotas(out);
+        return;
+    }
+    let whole = quotas::sum_of(ws);
     let down = quotas::round_down(total, whole, ws, scratch, out);
     let left = total - down.sum;
     if left == 0 {
         return;
     }
-    selection::give_leftover(left, down.largest, scratch, out);
+    selection::give_leftover(left, down.largest, down.positive, scratch, out);
 }

@@ -1,7 +1,7 @@
 // The quotas and remainders of all items.
 ghost use mathlib.Core.Path.{_≡_};
 ghost use Prim.Native.Nat.{_^_, _≤_, _<_, max};
-ghost use lib.ListN.{length};
+ghost use lib.ListN.{length, replicate};
 ghost use Rattle.apportion.specs.Shares.{sum, bit};
 ghost use Rattle.apportion.specs.Selection.{RoundedDown};
 use super::quotient::mul_div;
@@ -67,5 +67,26 @@ pub(crate) fn round_down(
         sum: down,
         largest: top,
         positive,
+    }
+}
+
+// With nothing to divide all remainders and quotas are 0.
+pub(crate) fn no_remainders(rests: &mut [u64])
+    ensures { λ r. ⌜ now (rests .exit) ≡ replicate (length (now (rests .entry))) 0 ⌝ }
+{
+    let mut i = 0;
+    while i < rests.len() {
+        rests[i] = 0;
+        i += 1;
+    }
+}
+
+pub(crate) fn no_quotas(out: &mut [u32])
+    ensures { λ r. ⌜ now (out .exit) ≡ replicate (length (now (out .entry))) 0 ⌝ }
+{
+    let mut i = 0;
+    while i < out.len() {
+        out[i] = 0;
+        i += 1;
     }
 }
