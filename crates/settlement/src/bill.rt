@@ -2,7 +2,7 @@
 ghost use mathlib.Core.Path.{_≡_};
 ghost use mathlib.Core.List.{[], _∷_, _++_};
 ghost use Prim.Native.Nat.{_+_, _*_, _-_, _^_, _≤_, _<_};
-ghost use lib.ListN.{length, take, replicate};
+ghost use lib.ListN.{length, take};
 ghost use Rattle.apportion.specs.Shares.{sum, shares};
 ghost use Rattle.sheet.specs.Layout.{sheetOf};
 ghost use Rattle.sheet.specs.Fits.{Fits};
@@ -90,7 +90,7 @@ fn statement_rows(
     }
 }
 
-// The statement from the four energies, with zeros after it.
+// The statement from the four energies.
 pub(crate) fn numbers(
     s: &[u8],
     n: usize,
@@ -99,16 +99,15 @@ pub(crate) fn numbers(
     b: &[u32],
     c: &[u32],
     d: &[u32],
-) -> [u32; 1280]
-    requires { ⌜ Accepts (now s) n t × (length (now a) ≡ 160) × (length (now b) ≡ 160) × (length (now c) ≡ 160) × (length (now d) ≡ 160) ⌝ }
+    out: &mut [u32],
+)
+    requires { ⌜ Accepts (now s) n t × (length (now a) ≡ 160) × (length (now b) ≡ 160) × (length (now c) ≡ 160) × (length (now d) ≡ 160) × (length (now out) ≡ 8 * n) ⌝ }
     requires { ⌜ (take n (now a) ≡ heat wholeWh (sheetOf (now s))) × (take n (now b) ≡ commonHeat wholeWh (sheetOf (now s))) × (take n (now c) ≡ water wholeWh (sheetOf (now s))) × (take n (now d) ≡ commonWater wholeWh (sheetOf (now s))) ⌝ }
-    ensures { λ r. ⌜ r ≡ statementOf (sheetOf (now (s .entry))) ++ replicate (1280 - 8 * n) 0 ⌝ }
+    ensures { λ r. ⌜ now (out .exit) ≡ statementOf (sheetOf (now (s .entry))) ⌝ }
 {
     let mut ws = [0u64; 640];
     let mut cents = [0u32; 640];
-    let mut out = [0u32; 1280];
     energy_weights(n, a, b, c, d, &mut ws);
     share_bill(bill(s), 4 * n, &ws, &mut cents);
-    statement_rows(n, a, b, c, d, &cents, &mut out[..8 * n]);
-    out
+    statement_rows(n, a, b, c, d, &cents, out);
 }

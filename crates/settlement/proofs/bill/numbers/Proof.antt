@@ -1,18 +1,16 @@
--- The energies add to M, so the bill divides by them; behind the 8n numbers the array is as it was made.
-use mathlib.Core.Path.{_≡_, sym, ap₂, subst⁻¹, _∙_}
-use mathlib.Core.List.{List, _++_}
+-- The energies add to M, so the bill divides by them.
+use mathlib.Core.Path.{_≡_, sym, subst⁻¹, _∙_}
+use mathlib.Core.List.{List}
 use Prim.Native.Nat.{ℕ, _*_, _-_, _^_, _≤_, _<_}
 use native.Mathlib.Omega.{arith}
 use borrow.Author.Needs.{needs}
-use lib.ListN.{length, replicate}
-use lib.Seq.{length-take-le}
+use lib.ListN.{length}
 use Rattle.apportion.specs.Shares.{sum}
 use Rattle.sheet.specs.Layout.{Sheet, sheetOf}
 use Rattle.month.specs.Steps.{wholeWh, unitByUnit, energies}
 use Rattle.month.proofs.Bounds.{sum-bounds}
 use Rattle.month.proofs.Sums.{energies-sum, bill-divisible}
 use Rattle.settlement.proofs.Fours.{energies-are, statement-is}
-use Rattle.settlement.proofs.Parts.{rest-untouched}
 use Rattle.settlement.proofs.bill.numbers.Statement.{statement}
 use Rattle.settlement.proofs.bill.numbers.Tie as tie
 
@@ -48,7 +46,7 @@ slice-aggregate-share-bill-2 c = search needs
 
 share-bill-requires : tie.Need-share-bill-requires
 share-bill-requires c κs =
-    let st = c .before .before .before .before .before .before .before .before .before .before .before in
+    let st = c .before .before .before .before .before .before .before .before .before .before .before .before in
     let a = st .pre .0 .0 .accepted in
     let w = c .before .before .before .before .energy-weights in
     let b = c .before .before .bill in
@@ -64,33 +62,19 @@ share-bill-requires c κs =
 slice-aggregate-statement-rows : tie.Need-slice-aggregate-statement-rows
 slice-aggregate-statement-rows c = search needs
 
-mul-out : tie.Need-mul-out
-mul-out c = search needs
-
-array-borrow-prefix-out : tie.Need-array-borrow-prefix-out
-array-borrow-prefix-out c = search needs
-
-slice-aggregate-statement-rows-2 : tie.Need-slice-aggregate-statement-rows-2
-slice-aggregate-statement-rows-2 c =
-    let st = c .before .before .before .before .before .before .before .before .before .before .before .before .before .before .before in
-    sym (length-take-le (8 * st .args .n) (replicate 1280 0) (omega (arith, few st)))
-
 statement-rows-requires : tie.Need-statement-rows-requires
-statement-rows-requires c κs =
-    let st = c .before .before .before .before .before .before .before .before .before .before .before .before .before .before .before in
-    let p = st .pre .0 in
-    ((few st, p .1, p .2, p .3, p .4), (omega (arith, c .before .before .before .share-bill .kept), length-take-le (8 * st .args .n) (replicate 1280 0) (omega (arith, few st))))
+statement-rows-requires c κs = search needs
+
+same-length : tie.Need-same-length
+same-length c = search needs
 
 returns : tie.Need-returns
 returns c =
-    let st = c .before .before .before .before .before .before .before .before .before .before .before .before .before .before .before .before .before in
-    let n = st .args .n in
-    let w = c .before .before .before .before .before .before .before .before .before .before .energy-weights in
-    let b = c .before .before .before .before .before .before .before .before .bill in
-    let h = c .before .before .before .before .before .share-bill in
-    ap₂ (λ (x y : List ℕ). x ++ y)
-    (c .before .statement-rows .ensures ∙ statement-is (S st) n (counted st) _ _ (h .last .1 .1 .1 .0) (b .result) (omega (arith, few st, h .kept)) (by-unit st) (w .ensures) (b .ensures) (h .ensures))
-    (rest-untouched (8 * n) 1280 0)
+    let st = c .before .before .before .before .before .before .before .before .before .before .before .before .before .before .before .before .before .before .before in
+    let w = c .before .before .before .before .before .before .before .before .before .before .before .energy-weights in
+    let b = c .before .before .before .before .before .before .before .before .before .bill in
+    let h = c .before .before .before .before .before .before .share-bill in
+    c .before .before .statement-rows .ensures ∙ statement-is (S st) (st .args .n) (counted st) _ _ (h .last .1 .1 .1 .0) (b .result) (omega (arith, few st, h .kept)) (by-unit st) (w .ensures) (b .ensures) (h .ensures)
 
 pub numbers-spec : {M : Type 1} → statement M
 numbers-spec =
@@ -104,8 +88,6 @@ numbers-spec =
     slice-aggregate-share-bill-2
     share-bill-requires
     slice-aggregate-statement-rows
-    mul-out
-    array-borrow-prefix-out
-    slice-aggregate-statement-rows-2
     statement-rows-requires
+    same-length
     returns)
