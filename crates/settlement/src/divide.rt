@@ -46,8 +46,9 @@ pub(crate) fn split(percent: u64, total: u64) -> Parts
     ensures { λ r. ⌜ (r .units ≡ splitBy wholeWh percent total .ofUnits) × (r .common ≡ splitBy wholeWh percent total .common) ⌝ }
 {
     let ws = [100 - percent, percent];
+    let mut remainders = [0u64; 2];
     let mut out = [0u32; 2];
-    share(total, 2, &ws, &mut out);
+    apportion::apportion(total, &ws, &mut remainders, &mut out);
     Parts {
         units: wide(out[0]),
         common: wide(out[1]),
