@@ -53,7 +53,7 @@ numbers-requires c κs =
     let b = c .before .before .before .before .before .before .before .before .before .before .before .before .before .common-heat in
     let w = c .before .before .before .before .before .before .before .before .before .unit-water in
     let d = c .before .before .before .before .before .before .common-water in
-    ((p .0, omega (arith, a .kept), omega (arith, b .kept), omega (arith, w .kept), omega (arith, d .kept), p .2), (a .ensures, b .ensures, w .ensures, d .ensures))
+    (p .0, record { ofHeat = (omega (arith, a .kept), a .ensures); ofCommonHeat = (omega (arith, b .kept), b .ensures); ofWater = (omega (arith, w .kept), w .ensures); ofCommonWater = (omega (arith, d .kept), d .ensures) }, p .2)
 
 same-length : tie.Need-same-length
 same-length c = search needs
