@@ -52,12 +52,11 @@ fn write_statement(s: &[u8], n: usize, t: Totals, h: u64, out: &mut [u32])
     let mut b = [0u32; 160];
     let mut c = [0u32; 160];
     let mut d = [0u32; 160];
-    let heat_parts = heat::heat_parts(s, n, t, h);
-    heat::unit_heat(s, n, t, heat_parts.units, &mut a);
-    heat::common_heat(s, n, t, heat_parts.common, &mut b);
-    let water_parts = water::water_parts(s, n, t, h);
-    water::unit_water(s, n, t, water_parts.units, &mut c);
-    water::common_water(s, n, t, water_parts.common, &mut d);
+    // Room for one division after the other.
+    let mut weights = [0u64; 160];
+    let mut remainders = [0u64; 160];
+    heat::write_heat(s, n, t, h, &mut weights, &mut remainders, &mut a, &mut b);
+    water::write_water(s, n, t, h, &mut weights, &mut remainders, &mut c, &mut d);
     bill::numbers(s, n, t, &a, &b, &c, &d, out);
 }
 

@@ -4,35 +4,35 @@ use borrow.Author.Needs.{needs}
 use Rattle.settlement.proofs.settling.write_statement.Statement.{statement}
 use Rattle.settlement.proofs.settling.write_statement.Tie as tie
 
-heat-parts-requires : tie.Need-heat-parts-requires
-heat-parts-requires c κs = search needs
+slice-aggregate-write-heat : tie.Need-slice-aggregate-write-heat
+slice-aggregate-write-heat c = search needs
 
-slice-aggregate-unit-heat : tie.Need-slice-aggregate-unit-heat
-slice-aggregate-unit-heat c = search needs
+slice-aggregate-write-heat-2 : tie.Need-slice-aggregate-write-heat-2
+slice-aggregate-write-heat-2 c = search needs
 
-unit-heat-requires : tie.Need-unit-heat-requires
-unit-heat-requires c κs = search needs
+slice-aggregate-write-heat-3 : tie.Need-slice-aggregate-write-heat-3
+slice-aggregate-write-heat-3 c = search needs
 
-slice-aggregate-common-heat : tie.Need-slice-aggregate-common-heat
-slice-aggregate-common-heat c = search needs
+slice-aggregate-write-heat-4 : tie.Need-slice-aggregate-write-heat-4
+slice-aggregate-write-heat-4 c = search needs
 
-common-heat-requires : tie.Need-common-heat-requires
-common-heat-requires c κs = search needs
+write-heat-requires : tie.Need-write-heat-requires
+write-heat-requires c κs = search needs
 
-water-parts-requires : tie.Need-water-parts-requires
-water-parts-requires c κs = search needs
+slice-aggregate-write-water : tie.Need-slice-aggregate-write-water
+slice-aggregate-write-water c = search needs
 
-slice-aggregate-unit-water : tie.Need-slice-aggregate-unit-water
-slice-aggregate-unit-water c = search needs
+slice-aggregate-write-water-2 : tie.Need-slice-aggregate-write-water-2
+slice-aggregate-write-water-2 c = search needs
 
-unit-water-requires : tie.Need-unit-water-requires
-unit-water-requires c κs = search needs
+slice-aggregate-write-water-3 : tie.Need-slice-aggregate-write-water-3
+slice-aggregate-write-water-3 c = search needs
 
-slice-aggregate-common-water : tie.Need-slice-aggregate-common-water
-slice-aggregate-common-water c = search needs
+slice-aggregate-write-water-4 : tie.Need-slice-aggregate-write-water-4
+slice-aggregate-write-water-4 c = search needs
 
-common-water-requires : tie.Need-common-water-requires
-common-water-requires c κs = search needs
+write-water-requires : tie.Need-write-water-requires
+write-water-requires c κs = search needs
 
 slice-aggregate-numbers : tie.Need-slice-aggregate-numbers
 slice-aggregate-numbers c = search needs
@@ -48,12 +48,18 @@ slice-aggregate-numbers-4 c = search needs
 
 numbers-requires : tie.Need-numbers-requires
 numbers-requires c κs =
-    let p = c .before .before .before .before .before .before .before .before .before .before .before .before .before .before .before .before .before .before .before .before .before .pre in
-    let a = c .before .before .before .before .before .before .before .before .before .before .before .before .before .before .before .before .unit-heat in
-    let b = c .before .before .before .before .before .before .before .before .before .before .before .before .before .common-heat in
-    let w = c .before .before .before .before .before .before .before .before .before .unit-water in
-    let d = c .before .before .before .before .before .before .common-water in
-    (p .0, record { ofHeat = (omega (arith, a .kept), a .ensures); ofCommonHeat = (omega (arith, b .kept), b .ensures); ofWater = (omega (arith, w .kept), w .ensures); ofCommonWater = (omega (arith, d .kept), d .ensures) }, p .2)
+    let p = c .before .before .before .before .before .before .before .before .before .before .before .before .before .before .before .before .before .before .before .before .before .before .before .before .before .pre in
+    let h = c .before .before .before .before .before .before .before .before .before .before .before .before .before .before .before .before .before .before .write-heat in
+    let w = c .before .before .before .before .before .before .before .before .before .write-water in (
+      p .0,
+      record {
+        ofHeat = (omega (arith, h .kept), h .ensures .0);
+        ofCommonHeat = (omega (arith, h .kept), h .ensures .1);
+        ofWater = (omega (arith, w .kept), w .ensures .0);
+        ofCommonWater = (omega (arith, w .kept), w .ensures .1);
+      },
+      p .2,
+    )
 
 same-length : tie.Need-same-length
 same-length c = search needs
@@ -65,16 +71,16 @@ pub write-statement-spec : {M : Type 1} → statement M
 write-statement-spec =
     tie.close
     (tie.spec
-    heat-parts-requires
-    slice-aggregate-unit-heat
-    unit-heat-requires
-    slice-aggregate-common-heat
-    common-heat-requires
-    water-parts-requires
-    slice-aggregate-unit-water
-    unit-water-requires
-    slice-aggregate-common-water
-    common-water-requires
+    slice-aggregate-write-heat
+    slice-aggregate-write-heat-2
+    slice-aggregate-write-heat-3
+    slice-aggregate-write-heat-4
+    write-heat-requires
+    slice-aggregate-write-water
+    slice-aggregate-write-water-2
+    slice-aggregate-write-water-3
+    slice-aggregate-write-water-4
+    write-water-requires
     slice-aggregate-numbers
     slice-aggregate-numbers-2
     slice-aggregate-numbers-3
