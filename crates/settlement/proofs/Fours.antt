@@ -4,12 +4,13 @@ use mathlib.Core.List.{List, [], _∷_, _++_, append-assoc, append-nil}
 use Prim.Native.Nat.{ℕ, zero, suc, _+_, _*_, _≤_, _<_}
 use native.Mathlib.Omega.{arith}
 use native.Mathlib.Numerals.{add-one}
-use lib.ListN.{length, getD, take, drop, set, length-drop, length-append, take-append-drop}
-use lib.Seq.{sets-eq, take-at, length-take-le, getD-take, take-append-le, drop-append-le, drop-drop}
+use lib.ListN.{length, getD, take, drop, set, length-append}
+use lib.Seq.{sets-eq, take-at, length-take-le, getD-take, drop-drop}
 use Rattle.apportion.specs.Shares.{shares}
 use Rattle.sheet.specs.Layout.{Sheet}
-use Rattle.month.specs.Steps.{wholeWh, unitByUnit, heat, commonHeat, water, commonWater, energies}
+use Rattle.month.specs.Steps.{wholeWh, unitByUnit, energies}
 use Rattle.month.specs.Month.{fourAndFour, billCents, costs, statementOf}
+use Rattle.settlement.specs.Ready.{Energies}
 
 -- ---- four numbers written one after the other, and read
 pub four-written : (out : List ℕ) (at a b c d : ℕ) → at + 4 ≤ length out
@@ -85,15 +86,6 @@ rows-next (suc n) es cs =
     rw (e, ← drop-drop (4 * n) 4 es, ← drop-drop (4 * n) 4 cs, append-assoc, append-assoc)
     (ap (λ (r : List ℕ). take 4 es ++ (take 4 cs ++ r)) (rows-next n (drop 4 es) (drop 4 cs)))
 
--- only the first 4n cents count
-pub rows-first : (n : ℕ) (es cs rest : List ℕ) → length cs ≡ 4 * n → fourAndFour n es (cs ++ rest) ≡ fourAndFour n es cs
-unfolding fourAndFour
-rows-first zero es cs rest e = refl
-rows-first (suc n) es cs rest e =
-    let h : 4 ≤ length cs = omega arith in
-    rw (take-append-le 4 cs rest h, drop-append-le 4 cs rest h)
-    (ap (λ (r : List ℕ). take 4 es ++ (take 4 cs ++ r)) (rows-first n (drop 4 es) (drop 4 cs) rest (omega (arith, length-drop 4 cs))))
-
 pub turn-rows : (out mid last es cs x y : List ℕ) (i : ℕ) → take (8 * i) out ≡ fourAndFour i es cs → take (8 * i + 4) mid ≡ take (8 * i) out ++ x
     → take (8 * i + 4 + 4) last ≡ take (8 * i + 4) mid ++ y → x ≡ take 4 (drop (4 * i) es) → y ≡ take 4 (drop (4 * i) cs)
     → take (8 * (i + 1)) last ≡ fourAndFour (i + 1) es cs
@@ -103,14 +95,10 @@ turn-rows out mid last es cs x y i p q r e f =
 
 -- ---- of a sheet
 module _ (s : Sheet) (n : ℕ) (count : n ≡ length (s .units)) where
-  pub energies-are : (a b c d : List ℕ) → (take n a ≡ heat wholeWh s) × (take n b ≡ commonHeat wholeWh s) × (take n c ≡ water wholeWh s) × (take n d ≡ commonWater wholeWh s)
-      → unitByUnit wholeWh n a b c d ≡ energies wholeWh s
+  pub energies-are : (a b c d : List ℕ) → Energies s n a b c d → unitByUnit wholeWh n a b c d ≡ energies wholeWh s
   unfolding energies
-  energies-are a b c d p = by-unit-take n a b c d ∙ rw (p .0, p .1, p .2, p .3, count)
+  energies-are a b c d p = by-unit-take n a b c d ∙ rw (p .ofHeat .1, p .ofCommonHeat .1, p .ofWater .1, p .ofCommonWater .1, count)
 
-  pub statement-is : (es ws cs : List ℕ) (b : ℕ) → 4 * n ≤ length cs → es ≡ energies wholeWh s → ws ≡ es → b ≡ billCents s → take (4 * n) cs ≡ shares b ws
-      → fourAndFour n es cs ≡ statementOf s
+  pub statement-is : (es ws cs : List ℕ) (b : ℕ) → es ≡ energies wholeWh s → ws ≡ es → b ≡ billCents s → cs ≡ shares b ws → fourAndFour n es cs ≡ statementOf s
   unfolding statementOf costs
-  statement-is es ws cs b h e f g p =
-      let first : fourAndFour n es (take (4 * n) cs ++ drop (4 * n) cs) ≡ fourAndFour n es (take (4 * n) cs) = rows-first n es (take (4 * n) cs) (drop (4 * n) cs) (length-take-le (4 * n) cs h) in
-      rw take-append-drop at first ∙ rw (p, f, e, g, count)
+  statement-is es ws cs b e f g p = rw (p, f, e, g, count)

@@ -1,14 +1,13 @@
 // Step 7 and the statement: per unit four Wh, four cents.
 ghost use mathlib.Core.Path.{_≡_};
 ghost use mathlib.Core.List.{[], _∷_, _++_};
-ghost use Prim.Native.Nat.{_+_, _*_, _-_, _^_, _≤_, _<_};
-ghost use lib.ListN.{length, take, replicate};
-ghost use Rattle.apportion.specs.Shares.{sum, shares};
+ghost use Prim.Native.Nat.{_+_, _*_, _≤_, _<_};
+ghost use lib.ListN.{length, take};
 ghost use Rattle.sheet.specs.Layout.{sheetOf};
 ghost use Rattle.sheet.specs.Fits.{Fits};
-ghost use Rattle.month.specs.Steps.{wholeWh, unitByUnit, heat, commonHeat, water, commonWater};
+ghost use Rattle.month.specs.Steps.{wholeWh, unitByUnit};
 ghost use Rattle.month.specs.Month.{billCents, fourAndFour, statementOf};
-ghost use Rattle.settlement.specs.Ready.{Accepts};
+ghost use Rattle.settlement.specs.Ready.{Accepts, Energies};
 use crate::totals::Totals;
 use crate::weights::head;
 use crate::weights::wide;
@@ -34,22 +33,12 @@ fn put_four_weights(out: &mut [u64], at: usize, a: u64, b: u64, c: u64, d: u64)
 
 // The 4n energies as weights, unit by unit.
 fn energy_weights(n: usize, a: &[u32], b: &[u32], c: &[u32], d: &[u32], out: &mut [u64])
-    requires { ⌜ (n ≤ 160) × (length (now a) ≡ 160) × (length (now b) ≡ 160) × (length (now c) ≡ 160) × (length (now d) ≡ 160) × (length (now out) ≡ 640) ⌝ }
-    ensures { λ r. ⌜ take (4 * n) (now (out .exit)) ≡ unitByUnit wholeWh n (now (a .entry)) (now (b .entry)) (now (c .entry)) (now (d .entry)) ⌝ }
+    requires { ⌜ (n ≤ 160) × (length (now a) ≡ 160) × (length (now b) ≡ 160) × (length (now c) ≡ 160) × (length (now d) ≡ 160) × (length (now out) ≡ 4 * n) ⌝ }
+    ensures { λ r. ⌜ now (out .exit) ≡ unitByUnit wholeWh n (now (a .entry)) (now (b .entry)) (now (c .entry)) (now (d .entry)) ⌝ }
 {
     for i in 0..n {
         put_four_weights(out, 4 * i, wide(a[i]), wide(b[i]), wide(c[i]), wide(d[i]));
     }
-}
-
-// The bill divided over the first m of the energies.
-fn share_bill(total: u64, m: usize, ws: &[u64], out: &mut [u32])
-    requires { ⌜ (m ≤ 640) × (m ≤ length (now ws)) × (m ≤ length (now out)) ⌝ }
-    requires { ⌜ (total < 2 ^ 32 - 1) × (sum (take m (now ws)) < 2 ^ 62) × (sum (take m (now ws)) ≡ 0 → total ≡ 0) ⌝ }
-    ensures { λ r. ⌜ take m (now (out .exit)) ≡ shares total (take m (now (ws .entry))) ⌝ }
-{
-    let mut remainders = [0u64; 640];
-    apportion::apportion(total, &ws[..m], &mut remainders[..m], &mut out[..m]);
 }
 
 fn put_four(out: &mut [u32], at: usize, a: u32, b: u32, c: u32, d: u32)
@@ -72,7 +61,7 @@ fn statement_rows(
     out: &mut [u32],
 )
     requires { ⌜ (n ≤ 160) × (length (now a) ≡ 160) × (length (now b) ≡ 160) × (length (now c) ≡ 160) × (length (now d) ≡ 160) ⌝ }
-    requires { ⌜ (length (now cents) ≡ 640) × (length (now out) ≡ 8 * n) ⌝ }
+    requires { ⌜ (length (now cents) ≡ 4 * n) × (length (now out) ≡ 8 * n) ⌝ }
     ensures { λ r. ⌜ now (out .exit) ≡ fourAndFour n (unitByUnit wholeWh n (now (a .entry)) (now (b .entry)) (now (c .entry)) (now (d .entry))) (now (cents .entry)) ⌝ }
 {
     for i in 0..n {
@@ -90,7 +79,94 @@ fn statement_rows(
     }
 }
 
-// The statement from the four energies, with zeros after it.
+// The bill divided over the 4n energies, and the statement; with room for 4n numbers each.
+fn numbers_in(
+    s: &[u8],
+    n: usize,
+    t: Totals,
+    a: &[u32],
+    b: &[u32],
+    c: &[u32],
+    d: &[u32],
+    weights: &mut [u64],
+    remainders: &mut [u64],
+    cents: &mut [u32],
+    out: &mut [u32],
+)
+    requires { ⌜ Accepts (now s) n t × Energies (sheetOf (now s)) n (now a) (now b) (now c) (now d) × (length (now out) ≡ 8 * n) ⌝ }
+    requires { ⌜ (length (now weights) ≡ 4 * n) × (length (now remainders) ≡ 4 * n) × (length (now cents) ≡ 4 * n) ⌝ }
+    ensures { λ r. ⌜ now (out .exit) ≡ statementOf (sheetOf (now (s .entry))) ⌝ }
+{
+    energy_weights(n, a, b, c, d, weights);
+    apportion::apportion(bill(s), weights, remainders, cents);
+    statement_rows(n, a, b, c, d, cents, out);
+}
+
+fn numbers_up_to_16(
+    s: &[u8],
+    n: usize,
+    t: Totals,
+    a: &[u32],
+    b: &[u32],
+    c: &[u32],
+    d: &[u32],
+    out: &mut [u32],
+)
+    requires { ⌜ Accepts (now s) n t × Energies (sheetOf (now s)) n (now a) (now b) (now c) (now d) × (length (now out) ≡ 8 * n) × (n ≤ 16) ⌝ }
+    ensures { λ r. ⌜ now (out .exit) ≡ statementOf (sheetOf (now (s .entry))) ⌝ }
+{
+    let mut weights = [0u64; 64];
+    let mut remainders = [0u64; 64];
+    let mut cents = [0u32; 64];
+    let m = 4 * n;
+    numbers_in(
+        s,
+        n,
+        t,
+        a,
+        b,
+        c,
+        d,
+        &mut weights[..m],
+        &mut remainders[..m],
+        &mut cents[..m],
+        out,
+    );
+}
+
+fn numbers_up_to_160(
+    s: &[u8],
+    n: usize,
+    t: Totals,
+    a: &[u32],
+    b: &[u32],
+    c: &[u32],
+    d: &[u32],
+    out: &mut [u32],
+)
+    requires { ⌜ Accepts (now s) n t × Energies (sheetOf (now s)) n (now a) (now b) (now c) (now d) × (length (now out) ≡ 8 * n) × (n ≤ 160) ⌝ }
+    ensures { λ r. ⌜ now (out .exit) ≡ statementOf (sheetOf (now (s .entry))) ⌝ }
+{
+    let mut weights = [0u64; 640];
+    let mut remainders = [0u64; 640];
+    let mut cents = [0u32; 640];
+    let m = 4 * n;
+    numbers_in(
+        s,
+        n,
+        t,
+        a,
+        b,
+        c,
+        d,
+        &mut weights[..m],
+        &mut remainders[..m],
+        &mut cents[..m],
+        out,
+    );
+}
+
+// The statement from the four energies; few units need little room.
 pub(crate) fn numbers(
     s: &[u8],
     n: usize,
@@ -99,16 +175,14 @@ pub(crate) fn numbers(
     b: &[u32],
     c: &[u32],
     d: &[u32],
-) -> [u32; 1280]
-    requires { ⌜ Accepts (now s) n t × (length (now a) ≡ 160) × (length (now b) ≡ 160) × (length (now c) ≡ 160) × (length (now d) ≡ 160) ⌝ }
-    requires { ⌜ (take n (now a) ≡ heat wholeWh (sheetOf (now s))) × (take n (now b) ≡ commonHeat wholeWh (sheetOf (now s))) × (take n (now c) ≡ water wholeWh (sheetOf (now s))) × (take n (now d) ≡ commonWater wholeWh (sheetOf (now s))) ⌝ }
-    ensures { λ r. ⌜ r ≡ statementOf (sheetOf (now (s .entry))) ++ replicate (1280 - 8 * n) 0 ⌝ }
+    out: &mut [u32],
+)
+    requires { ⌜ Accepts (now s) n t × Energies (sheetOf (now s)) n (now a) (now b) (now c) (now d) × (length (now out) ≡ 8 * n) ⌝ }
+    ensures { λ r. ⌜ now (out .exit) ≡ statementOf (sheetOf (now (s .entry))) ⌝ }
 {
-    let mut ws = [0u64; 640];
-    let mut cents = [0u32; 640];
-    let mut out = [0u32; 1280];
-    energy_weights(n, a, b, c, d, &mut ws);
-    share_bill(bill(s), 4 * n, &ws, &mut cents);
-    statement_rows(n, a, b, c, d, &cents, &mut out[..8 * n]);
-    out
+    if n <= 16 {
+        numbers_up_to_16(s, n, t, a, b, c, d, out);
+        return;
+    }
+    numbers_up_to_160(s, n, t, a, b, c, d, out);
 }

@@ -13,24 +13,31 @@ use crate::totals::Totals;
 use crate::weights::wide;
 
 // The total divided by the first m weights.
-pub(crate) fn share(total: u64, m: usize, ws: &[u64], out: &mut [u32])
-    requires { ⌜ (m ≤ 160) × (m ≤ length (now ws)) × (m ≤ length (now out)) ⌝ }
-    requires { ⌜ (total < 2 ^ 32 - 1) × (sum (take m (now ws)) < 2 ^ 62) × (sum (take m (now ws)) ≡ 0 → total ≡ 0) ⌝ }
-    ensures { λ r. ⌜ take m (now (out .exit)) ≡ shares total (take m (now (ws .entry))) ⌝ }
+pub(crate) fn share(total: u64, m: usize, weights: &[u64], remainders: &mut [u64], out: &mut [u32])
+    requires { ⌜ (m ≤ length (now weights)) × (m ≤ length (now remainders)) × (m ≤ length (now out)) ⌝ }
+    requires { ⌜ (total < 2 ^ 32 - 1) × (sum (take m (now weights)) < 2 ^ 62) × (sum (take m (now weights)) ≡ 0 → total ≡ 0) ⌝ }
+    ensures { λ r. ⌜ take m (now (out .exit)) ≡ shares total (take m (now (weights .entry))) ⌝ }
 {
-    let mut remainders = [0u64; 160];
-    apportion::apportion(total, &ws[..m], &mut remainders[..m], &mut out[..m]);
+    apportion::apportion(total, &weights[..m], &mut remainders[..m], &mut out[..m]);
 }
 
 // The total divided by the weights of the units that take part; returns how many they are.
-pub(crate) fn divide_by(s: &[u8], n: usize, by: By, t: Totals, total: u64, out: &mut [u32]) -> usize
-    requires { ⌜ Accepts (now s) n t × (length (now out) ≡ 160) ⌝ }
+pub(crate) fn divide_by(
+    s: &[u8],
+    n: usize,
+    by: By,
+    t: Totals,
+    total: u64,
+    weights: &mut [u64],
+    remainders: &mut [u64],
+    out: &mut [u32],
+) -> usize
+    requires { ⌜ Accepts (now s) n t × (length (now out) ≡ 160) × (length (now weights) ≡ 160) × (length (now remainders) ≡ 160) ⌝ }
     requires { ⌜ (total < 2 ^ 32 - 1) × (sum (weightsBy by (sheetOf (now s))) ≡ 0 → total ≡ 0) ⌝ }
     ensures { λ r. ⌜ (r ≤ n) × (take r (now (out .exit)) ≡ shares total (weightsBy by (sheetOf (now (s .entry))))) ⌝ }
 {
-    let mut ws = [0u64; 160];
-    let m = gather(s, n, by, t, &mut ws);
-    share(total, m, &ws, out);
+    let m = gather(s, n, by, t, weights);
+    share(total, m, weights, remainders, out);
     m
 }
 
@@ -46,8 +53,9 @@ pub(crate) fn split(percent: u64, total: u64) -> Parts
     ensures { λ r. ⌜ (r .units ≡ splitBy wholeWh percent total .ofUnits) × (r .common ≡ splitBy wholeWh percent total .common) ⌝ }
 {
     let ws = [100 - percent, percent];
+    let mut remainders = [0u64; 2];
     let mut out = [0u32; 2];
-    share(total, 2, &ws, &mut out);
+    apportion::apportion(total, &ws, &mut remainders, &mut out);
     Parts {
         units: wide(out[0]),
         common: wide(out[1]),

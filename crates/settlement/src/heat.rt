@@ -26,7 +26,7 @@ use sheet::header;
 use sheet::rows;
 
 // Step 2.
-pub(crate) fn heat_parts(s: &[u8], n: usize, t: Totals, h: u64) -> Parts
+fn heat_parts(s: &[u8], n: usize, t: Totals, h: u64) -> Parts
     requires { ⌜ Accepts (now s) n t × (h ≡ hotWaterWh (sheetOf (now s))) ⌝ }
     ensures { λ r. ⌜ (r .units ≡ heatParts wholeWh (sheetOf (now (s .entry))) .ofUnits) × (r .common ≡ heatParts wholeWh (sheetOf (now (s .entry))) .common) ⌝ }
 {
@@ -51,30 +51,53 @@ fn heat_by_meters(s: &[u8], n: usize, out: &mut [u32])
 }
 
 // Step 3, model 1: by q.
-fn heat_by_load(s: &[u8], n: usize, t: Totals, total: u64, out: &mut [u32])
-    requires { ⌜ Accepts (now s) n t × (length (now out) ≡ 160) × (sheetOf (now s) .model ≡ 1) × (total ≡ heatParts wholeWh (sheetOf (now s)) .ofUnits) ⌝ }
+fn heat_by_load(
+    s: &[u8],
+    n: usize,
+    t: Totals,
+    total: u64,
+    weights: &mut [u64],
+    remainders: &mut [u64],
+    out: &mut [u32],
+)
+    requires { ⌜ Accepts (now s) n t × (length (now out) ≡ 160) × (sheetOf (now s) .model ≡ 1) × (total ≡ heatParts wholeWh (sheetOf (now s)) .ofUnits) × (length (now weights) ≡ 160) × (length (now remainders) ≡ 160) ⌝ }
     ensures { λ r. ⌜ take n (now (out .exit)) ≡ heat wholeWh (sheetOf (now (s .entry))) ⌝ }
 {
-    divide_by(s, n, By::Load, t, total, out);
+    divide_by(s, n, By::Load, t, total, weights, remainders, out);
 }
 
 // Step 3, model 2: by p.
-fn heat_by_area(s: &[u8], n: usize, t: Totals, total: u64, out: &mut [u32])
-    requires { ⌜ Accepts (now s) n t × (length (now out) ≡ 160) × (sheetOf (now s) .model ≡ 2) × (total ≡ heatParts wholeWh (sheetOf (now s)) .ofUnits) ⌝ }
+fn heat_by_area(
+    s: &[u8],
+    n: usize,
+    t: Totals,
+    total: u64,
+    weights: &mut [u64],
+    remainders: &mut [u64],
+    out: &mut [u32],
+)
+    requires { ⌜ Accepts (now s) n t × (length (now out) ≡ 160) × (sheetOf (now s) .model ≡ 2) × (total ≡ heatParts wholeWh (sheetOf (now s)) .ofUnits) × (length (now weights) ≡ 160) × (length (now remainders) ≡ 160) ⌝ }
     ensures { λ r. ⌜ take n (now (out .exit)) ≡ heat wholeWh (sheetOf (now (s .entry))) ⌝ }
 {
-    divide_by(s, n, By::Area, t, total, out);
+    divide_by(s, n, By::Area, t, total, weights, remainders, out);
 }
 
 // Step 3, models 3 to 5: the units not read, last the metered pool; returns how many are not read.
-fn pool_shares(s: &[u8], n: usize, t: Totals, total: u64, out: &mut [u32]) -> usize
-    requires { ⌜ Accepts (now s) n t × (length (now out) ≡ 160) × (2 < sheetOf (now s) .model) × (allMetered (sheetOf (now s)) ≡ false) × (total ≡ heatParts wholeWh (sheetOf (now s)) .ofUnits) ⌝ }
+fn pool_shares(
+    s: &[u8],
+    n: usize,
+    t: Totals,
+    total: u64,
+    weights: &mut [u64],
+    remainders: &mut [u64],
+    out: &mut [u32],
+) -> usize
+    requires { ⌜ Accepts (now s) n t × (length (now out) ≡ 160) × (2 < sheetOf (now s) .model) × (allMetered (sheetOf (now s)) ≡ false) × (total ≡ heatParts wholeWh (sheetOf (now s)) .ofUnits) × (length (now weights) ≡ 160) × (length (now remainders) ≡ 160) ⌝ }
     ensures { λ r. ⌜ (r < 160) × (r ≡ length (unreadUnits (sheetOf (now (s .entry))))) × (take (r + 1) (now (out .exit)) ≡ poolShares wholeWh (sheetOf (now (s .entry)))) ⌝ }
 {
-    let mut ws = [0u64; 160];
-    let m = gather(s, n, By::Unread, t, &mut ws);
-    ws[m] = 10000 * t.area - t.unread;
-    share(total, m + 1, &ws, out);
+    let m = gather(s, n, By::Unread, t, weights);
+    weights[m] = 10000 * t.area - t.unread;
+    share(total, m + 1, weights, remainders, out);
     m
 }
 
@@ -100,21 +123,37 @@ fn merge(s: &[u8], n: usize, unread: &[u32], read: &[u32], out: &mut [u32])
 }
 
 // Steps 3 and 4, models 3 to 5.
-fn heat_by_readings(s: &[u8], n: usize, t: Totals, total: u64, out: &mut [u32])
-    requires { ⌜ Accepts (now s) n t × (length (now out) ≡ 160) × (2 < sheetOf (now s) .model) × (allMetered (sheetOf (now s)) ≡ false) × (total ≡ heatParts wholeWh (sheetOf (now s)) .ofUnits) ⌝ }
+fn heat_by_readings(
+    s: &[u8],
+    n: usize,
+    t: Totals,
+    total: u64,
+    weights: &mut [u64],
+    remainders: &mut [u64],
+    out: &mut [u32],
+)
+    requires { ⌜ Accepts (now s) n t × (length (now out) ≡ 160) × (2 < sheetOf (now s) .model) × (allMetered (sheetOf (now s)) ≡ false) × (total ≡ heatParts wholeWh (sheetOf (now s)) .ofUnits) × (length (now weights) ≡ 160) × (length (now remainders) ≡ 160) ⌝ }
     ensures { λ r. ⌜ take n (now (out .exit)) ≡ heat wholeWh (sheetOf (now (s .entry))) ⌝ }
 {
     let mut unread = [0u32; 160];
     let mut read = [0u32; 160];
-    let m = pool_shares(s, n, t, total, &mut unread);
+    let m = pool_shares(s, n, t, total, weights, remainders, &mut unread);
     let pool = wide(unread[m]);
-    divide_by(s, n, By::Read, t, pool, &mut read);
+    divide_by(s, n, By::Read, t, pool, weights, remainders, &mut read);
     merge(s, n, &unread, &read, out);
 }
 
 // Each unit's heat.
-pub(crate) fn unit_heat(s: &[u8], n: usize, t: Totals, total: u64, out: &mut [u32])
-    requires { ⌜ Accepts (now s) n t × (length (now out) ≡ 160) × (total ≡ heatParts wholeWh (sheetOf (now s)) .ofUnits) ⌝ }
+fn unit_heat(
+    s: &[u8],
+    n: usize,
+    t: Totals,
+    total: u64,
+    weights: &mut [u64],
+    remainders: &mut [u64],
+    out: &mut [u32],
+)
+    requires { ⌜ Accepts (now s) n t × (length (now out) ≡ 160) × (total ≡ heatParts wholeWh (sheetOf (now s)) .ofUnits) × (length (now weights) ≡ 160) × (length (now remainders) ≡ 160) ⌝ }
     ensures { λ r. ⌜ take n (now (out .exit)) ≡ heat wholeWh (sheetOf (now (s .entry))) ⌝ }
 {
     if all_metered(s, n, t) {
@@ -123,20 +162,47 @@ pub(crate) fn unit_heat(s: &[u8], n: usize, t: Totals, total: u64, out: &mut [u3
     }
     let model = head(s, header::MODEL);
     if model == 1 {
-        heat_by_load(s, n, t, total, out);
+        heat_by_load(s, n, t, total, weights, remainders, out);
         return;
     }
     if model == 2 {
-        heat_by_area(s, n, t, total, out);
+        heat_by_area(s, n, t, total, weights, remainders, out);
         return;
     }
-    heat_by_readings(s, n, t, total, out);
+    heat_by_readings(s, n, t, total, weights, remainders, out);
 }
 
 // Step 5: by p.
-pub(crate) fn common_heat(s: &[u8], n: usize, t: Totals, total: u64, out: &mut [u32])
-    requires { ⌜ Accepts (now s) n t × (length (now out) ≡ 160) × (total ≡ heatParts wholeWh (sheetOf (now s)) .common) ⌝ }
+fn common_heat(
+    s: &[u8],
+    n: usize,
+    t: Totals,
+    total: u64,
+    weights: &mut [u64],
+    remainders: &mut [u64],
+    out: &mut [u32],
+)
+    requires { ⌜ Accepts (now s) n t × (length (now out) ≡ 160) × (total ≡ heatParts wholeWh (sheetOf (now s)) .common) × (length (now weights) ≡ 160) × (length (now remainders) ≡ 160) ⌝ }
     ensures { λ r. ⌜ take n (now (out .exit)) ≡ commonHeat wholeWh (sheetOf (now (s .entry))) ⌝ }
 {
-    divide_by(s, n, By::Area, t, total, out);
+    divide_by(s, n, By::Area, t, total, weights, remainders, out);
+}
+
+// Steps 2 to 5.
+pub(crate) fn write_heat(
+    s: &[u8],
+    n: usize,
+    t: Totals,
+    h: u64,
+    weights: &mut [u64],
+    remainders: &mut [u64],
+    units: &mut [u32],
+    common: &mut [u32],
+)
+    requires { ⌜ Accepts (now s) n t × (h ≡ hotWaterWh (sheetOf (now s))) × (length (now units) ≡ 160) × (length (now common) ≡ 160) × (length (now weights) ≡ 160) × (length (now remainders) ≡ 160) ⌝ }
+    ensures { λ r. ⌜ (take n (now (units .exit)) ≡ heat wholeWh (sheetOf (now (s .entry)))) × (take n (now (common .exit)) ≡ commonHeat wholeWh (sheetOf (now (s .entry)))) ⌝ }
+{
+    let parts = heat_parts(s, n, t, h);
+    unit_heat(s, n, t, parts.units, weights, remainders, units);
+    common_heat(s, n, t, parts.common, weights, remainders, common);
 }

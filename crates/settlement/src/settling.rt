@@ -1,8 +1,8 @@
 // A sheet settled, for any bytes.
 ghost use mathlib.Core.Path.{_≡_};
 ghost use mathlib.Core.List.{_++_};
-ghost use Prim.Native.Nat.{_*_, _-_, _≤_};
-ghost use lib.ListN.{length, take, replicate};
+ghost use Prim.Native.Nat.{_*_, _-_};
+ghost use lib.ListN.{length, replicate};
 ghost use Rattle.sheet.specs.declared.refusal.Outcome.the-variants.{Accepted};
 ghost use Rattle.sheet.specs.Layout.{sheetOf};
 ghost use Rattle.sheet.specs.Check.{checked};
@@ -43,22 +43,31 @@ fn refused(r: Refusal) -> Settlement
     }
 }
 
-// Steps 2 to 7 of a sheet that is not refused.
-fn statement_of(s: &[u8], n: usize, t: Totals, h: u64) -> [u32; 1280]
-    requires { ⌜ Accepts (now s) n t × (h ≡ hotWaterWh (sheetOf (now s))) ⌝ }
-    ensures { λ r. ⌜ r ≡ statementOf (sheetOf (now (s .entry))) ++ replicate (1280 - 8 * n) 0 ⌝ }
+// Steps 2 to 7 of a sheet that is not refused, into a list of 8n numbers.
+fn write_statement(s: &[u8], n: usize, t: Totals, h: u64, out: &mut [u32])
+    requires { ⌜ Accepts (now s) n t × (h ≡ hotWaterWh (sheetOf (now s))) × (length (now out) ≡ 8 * n) ⌝ }
+    ensures { λ r. ⌜ now (out .exit) ≡ statementOf (sheetOf (now (s .entry))) ⌝ }
 {
     let mut a = [0u32; 160];
     let mut b = [0u32; 160];
     let mut c = [0u32; 160];
     let mut d = [0u32; 160];
-    let heat_parts = heat::heat_parts(s, n, t, h);
-    heat::unit_heat(s, n, t, heat_parts.units, &mut a);
-    heat::common_heat(s, n, t, heat_parts.common, &mut b);
-    let water_parts = water::water_parts(s, n, t, h);
-    water::unit_water(s, n, t, water_parts.units, &mut c);
-    water::common_water(s, n, t, water_parts.common, &mut d);
-    bill::numbers(s, n, t, &a, &b, &c, &d)
+    // Room for one division after the other.
+    let mut weights = [0u64; 160];
+    let mut remainders = [0u64; 160];
+    heat::write_heat(s, n, t, h, &mut weights, &mut remainders, &mut a, &mut b);
+    water::write_water(s, n, t, h, &mut weights, &mut remainders, &mut c, &mut d);
+    bill::numbers(s, n, t, &a, &b, &c, &d, out);
+}
+
+// The statement with zeros after it.
+fn statement_of(s: &[u8], n: usize, t: Totals, h: u64) -> [u32; 1280]
+    requires { ⌜ Accepts (now s) n t × (h ≡ hotWaterWh (sheetOf (now s))) ⌝ }
+    ensures { λ r. ⌜ r ≡ statementOf (sheetOf (now (s .entry))) ++ replicate (1280 - 8 * n) 0 ⌝ }
+{
+    let mut out = [0u32; 1280];
+    write_statement(s, n, t, h, &mut out[..8 * n]);
+    out
 }
 
 fn accepted(s: &[u8], n: usize, t: Totals, h: u64) -> Settlement
@@ -99,29 +108,32 @@ pub fn settle_sheet(s: &[u8]) -> Settlement
     }
 }
 
-// The first numbers into a list that is not longer.
-fn copy(numbers: &[u32], out: &mut [u32])
-    requires { ⌜ length (now out) ≤ length (now numbers) ⌝ }
-    ensures { λ r. ⌜ now (out .exit) ≡ take (length (now (out .entry))) (now (numbers .entry)) ⌝ }
+// A sheet that passes 1 to 7: 8 to 12, then 13, then the statement.
+fn settle_into(s: &[u8], statement: &mut [u32]) -> Outcome
+    requires { ⌜ checked 32 (now s) ≡ Accepted ⌝ }
+    ensures { λ r. ⌜ (r ≡ settleAnswer (now (s .entry)) (now (statement .entry))) × (now (statement .exit) ≡ statementAfter (now (s .entry)) (now (statement .entry))) ⌝ }
 {
-    for i in 0..out.len() {
-        out[i] = numbers[i];
+    let n = header::header_field(s, header::UNIT_COUNT) as usize;
+    let t = sum_rows(s, n);
+    let h = hot_water(s);
+    let outcome = refusal(s, n, t, h);
+    let Outcome::Accepted = outcome else {
+        return outcome;
+    };
+    if statement.len() != 8 * n {
+        return Outcome::Refused(Refusal::BufferLength);
     }
+    write_statement(s, n, t, h, statement);
+    Outcome::Accepted
 }
 
 // The statement of a sheet into a list of 8n numbers: 1 to 12, then 13. A refused call leaves the list as it was.
 pub fn settle(sheet: &[u8], statement: &mut [u32]) -> Outcome
     ensures { λ r. ⌜ (r ≡ settleAnswer (now (sheet .entry)) (now (statement .entry))) × (now (statement .exit) ≡ statementAfter (now (sheet .entry)) (now (statement .entry))) ⌝ }
 {
-    let r = settle_sheet(sheet);
-    let outcome = r.outcome;
-    let numbers = r.numbers;
+    let outcome = sheet::check_sheet(sheet);
     let Outcome::Accepted = outcome else {
         return outcome;
     };
-    if statement.len() != 8 * (r.count as usize) {
-        return Outcome::Refused(Refusal::BufferLength);
-    }
-    copy(&numbers, statement);
-    Outcome::Accepted
+    settle_into(sheet, statement)
 }

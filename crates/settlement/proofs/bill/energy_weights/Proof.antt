@@ -1,16 +1,17 @@
 -- Invariant: the first 4i weights are the energies of the first i units.
-use mathlib.Core.Path.{_≡_, refl}
+use mathlib.Core.Path.{_≡_, refl, sym, _∙_}
 use Prim.Native.Nat.{_*_, _-_, _≤_}
 use native.Mathlib.Omega.{arith}
 use borrow.Author.Needs.{needs}
 use lib.ListN.{length, take}
+use lib.Seq.{take-all}
 use Rattle.month.specs.Steps.{unitByUnit, wholeWh}
 use Rattle.settlement.proofs.Fours.{turn-four}
 use Rattle.settlement.proofs.bill.energy_weights.Statement.{statement}
 use Rattle.settlement.proofs.bill.energy_weights.Tie as tie
 
 abbrev Inv-loop : tie.InvT-loop
-Inv-loop n a b c d out₀ i₀ out i = (i ≤ n) × ((length out ≡ 640) × (take (4 * i) out ≡ unitByUnit wholeWh i a b c d))
+Inv-loop n a b c d out₀ i₀ out i = (i ≤ n) × ((length out ≡ 4 * n) × (take (4 * i) out ≡ unitByUnit wholeWh i a b c d))
 
 abbrev μ-loop : tie.MeasureT-loop
 μ-loop n a b c d out₀ i₀ out i = n - i
@@ -92,7 +93,7 @@ returns c =
     let a = c .before .before .before .before .before .before .before .args in
     let l = c .before .loop in
     let e : a .n ≡ l .i = omega arith in
-    rw e (l .inv .1 .1)
+    sym (take-all (4 * l .i) (l .out) (omega arith)) ∙ rw e (l .inv .1 .1)
 
 pub energy-weights-spec : {M : Type 1} → statement M
 energy-weights-spec =

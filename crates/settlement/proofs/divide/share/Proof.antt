@@ -1,4 +1,4 @@
--- The first m weights, remainders and numbers are lent to `apportion`; what it writes stands before the rest of the list. Assumes nothing.
+-- The first m weights, remainders and numbers are lent to `apportion`; what it writes stands before the rest of the list.
 use mathlib.Core.Path.{_≡_, ap, _∙_}
 use native.Mathlib.Omega.{arith}
 use borrow.Author.Needs.{needs}
@@ -11,31 +11,34 @@ use Rattle.settlement.proofs.divide.share.Tie as tie
 slice-aggregate-apportion : tie.Need-slice-aggregate-apportion
 slice-aggregate-apportion c = simp length-take (omega arith)
 
-array-borrow-prefix-remainders : tie.Need-array-borrow-prefix-remainders
-array-borrow-prefix-remainders c = search needs
+slice-relend-prefix-apportion : tie.Need-slice-relend-prefix-apportion
+slice-relend-prefix-apportion c = search needs
 
 slice-aggregate-apportion-2 : tie.Need-slice-aggregate-apportion-2
 slice-aggregate-apportion-2 c = simp length-take (omega arith)
 
-slice-relend-prefix-apportion : tie.Need-slice-relend-prefix-apportion
-slice-relend-prefix-apportion c = search needs
+slice-relend-prefix-apportion-2 : tie.Need-slice-relend-prefix-apportion-2
+slice-relend-prefix-apportion-2 c = search needs
 
 slice-aggregate-apportion-3 : tie.Need-slice-aggregate-apportion-3
 slice-aggregate-apportion-3 c = simp length-take (omega arith)
 
 apportion-requires : tie.Need-apportion-requires
-apportion-requires c κs = (c .before .before .before .before .before .pre .1, simp length-take (omega arith, omega arith))
+apportion-requires c κs = (c .before .before .before .before .before .before .pre .1, simp length-take (omega arith, omega arith))
 
 same-length : tie.Need-same-length
 same-length c = search needs
 
+same-length-2 : tie.Need-same-length-2
+same-length-2 c = search needs
+
 returns : tie.Need-returns
 returns c =
-    let st = c .before .before .before .before .before .before .before .before .before in
+    let st = c .before .before .before .before .before .before .before .before .before .before .before in
     let a = st .args in
-    let ws = take (a .m) (a .ws .now) in
-    let p = c .before .before .before .apportion in
-    let l : length (p .last .1 .1 .1 .0) ≡ a .m = ap length (p .ensures .0) ∙ shares-fair (a .total) ws (st .pre .1 .2) .as-many ∙ length-take-le (a .m) (a .ws .now) (omega arith) in
+    let ws = take (a .m) (a .weights .now) in
+    let p = c .before .before .before .before .apportion in
+    let l : length (p .last .1 .1 .1 .0) ≡ a .m = ap length (p .ensures .0) ∙ shares-fair (a .total) ws (st .pre .1 .2) .as-many ∙ length-take-le (a .m) (a .weights .now) (omega arith) in
     take-at (p .last .1 .1 .1 .0) (drop (a .m) (a .out .now)) (a .m) l ∙ p .ensures .0
 
 pub share-spec : {M : Type 1} → statement M
@@ -43,10 +46,11 @@ share-spec =
     tie.close
     (tie.spec
     slice-aggregate-apportion
-    array-borrow-prefix-remainders
-    slice-aggregate-apportion-2
     slice-relend-prefix-apportion
+    slice-aggregate-apportion-2
+    slice-relend-prefix-apportion-2
     slice-aggregate-apportion-3
     apportion-requires
     same-length
+    same-length-2
     returns)

@@ -1,4 +1,4 @@
--- Units' heat over all units by q. Assumes nothing.
+-- Units' heat over all units by q.
 use mathlib.Core.Path.{refl}
 use native.Mathlib.Omega.{arith}
 use borrow.Author.Tests.{eq-eqb, ne-eqb}
@@ -13,20 +13,28 @@ use Rattle.settlement.proofs.heat.heat_by_load.Tie as tie
 
 divide-by-requires : tie.Need-divide-by-requires
 divide-by-requires c κs =
-    let st = c .before .before .before in
-    ((st .pre .0, st .pre .1), rw (st .pre .3) (load-heat (st .pre .0) (st .pre .2)))
+    let p = c .before .before .before .before .before .before .before .pre in
+    ((p .0, p .1, p .4, p .5), rw (p .3) (load-heat (p .0) (p .2)))
 
 same-length : tie.Need-same-length
 same-length c = search needs
 
+same-length-2 : tie.Need-same-length-2
+same-length-2 c = search needs
+
+same-length-3 : tie.Need-same-length-3
+same-length-3 c = search needs
+
 returns : tie.Need-returns
 unfolding heat allMetered
 returns c =
-    let st = c .before .before .before .before .before .before in
-    let d = c .before .before .divide-by in
+    let st = c .before .before .before .before .before .before .before .before .before .before .before .before .before .before in
+    let p = st .pre in
+    let d = c .before .before .before .before .before .before .divide-by in
     let m = sheetOf (st .args .s .now) .model in
-    rw (ne-eqb m 5 (λ z. omega arith), eq-eqb m 1 (st .pre .2))
-    (over-units (st .pre .0) Load refl (load-heat (st .pre .0) (st .pre .2)) (st .pre .3) (d .last .1 .1 .1 .1 .1 .0) (omega arith) (d .ensures))
+    rw (ne-eqb m 5 (λ z. omega arith), eq-eqb m 1 (p .2))
+    (over-units (p .0) Load refl (load-heat (p .0) (p .2)) (p .3) (d .last .1 .1 .1 .1 .1 .1 .1 .0) (omega arith) (d .ensures))
 
 pub heat-by-load-spec : {M : Type 1} → statement M
-heat-by-load-spec = tie.close (tie.spec divide-by-requires same-length returns)
+heat-by-load-spec =
+    tie.close (tie.spec divide-by-requires same-length same-length-2 same-length-3 returns)

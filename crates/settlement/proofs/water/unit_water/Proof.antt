@@ -1,4 +1,4 @@
--- Units' water over all units by their weights. Assumes nothing.
+-- Units' water over all units by their weights.
 use mathlib.Core.Path.{refl}
 use native.Mathlib.Omega.{arith}
 use borrow.Author.Needs.{needs}
@@ -10,18 +10,25 @@ use Rattle.settlement.proofs.water.unit_water.Tie as tie
 
 divide-by-requires : tie.Need-divide-by-requires
 divide-by-requires c κs =
-    let st = c .before .before .before in
-    ((st .pre .0, st .pre .1), rw (st .pre .2) (weighed-water (st .pre .0)))
+    let p = c .before .before .before .before .before .before .before .pre in
+    ((p .0, p .1, p .3, p .4), rw (p .2) (weighed-water (p .0)))
 
 same-length : tie.Need-same-length
 same-length c = search needs
 
+same-length-2 : tie.Need-same-length-2
+same-length-2 c = search needs
+
+same-length-3 : tie.Need-same-length-3
+same-length-3 c = search needs
+
 returns : tie.Need-returns
 unfolding water
 returns c =
-    let st = c .before .before .before .before .before .before in
-    let d = c .before .before .divide-by in
-    over-units (st .pre .0) Water refl (weighed-water (st .pre .0)) (st .pre .2) (d .last .1 .1 .1 .1 .1 .0) (omega arith) (d .ensures)
+    let p = c .before .before .before .before .before .before .before .before .before .before .before .before .before .before .pre in
+    let d = c .before .before .before .before .before .before .divide-by in
+    over-units (p .0) Water refl (weighed-water (p .0)) (p .2) (d .last .1 .1 .1 .1 .1 .1 .1 .0) (omega arith) (d .ensures)
 
 pub unit-water-spec : {M : Type 1} → statement M
-unit-water-spec = tie.close (tie.spec divide-by-requires same-length returns)
+unit-water-spec =
+    tie.close (tie.spec divide-by-requires same-length same-length-2 same-length-3 returns)
