@@ -4,9 +4,10 @@ ghost use mathlib.Core.List.{[]};
 ghost use mathlib.Core.Bool.{true};
 ghost use Prim.Native.Nat.{ℕ, suc, _+_, _-_, _^_, _≤_, _<_, min};
 ghost use lib.ListN.{length, getD};
-ghost use Rattle.apportion.specs.Shares.{bit, atLeast, extras, added};
+ghost use Rattle.apportion.specs.Shares.{atLeast, extras, added};
 ghost use Rattle.apportion.specs.Selection.{largest, Counted, CountedWith, Threshold, Collected, given, ties};
 use super::quotas::larger;
+use super::quotas::one_if;
 
 // How many keys reach a number m. No key lies from `below` up to m, nor from m up to `above`.
 pub struct Count {
@@ -122,12 +123,6 @@ fn narrow(keys: &[u64], left: u64, from: u64, to: u64, reach: u64) -> Cut
         theta: lo,
         spare: left - reach_hi,
     }
-}
-
-fn one_if(b: bool) -> u64
-    ensures { λ r. ⌜ r ≡ bit b ⌝ }
-{
-    if b { 1 } else { 0 }
 }
 
 // How many keys lie above a bracket, and how many in it.
