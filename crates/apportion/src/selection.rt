@@ -156,18 +156,78 @@ struct Bracket {
     hi: u64,
 }
 
-// Where the threshold most likely lies, the positive keys being mostly spread evenly up to the largest.
-fn around(left: u64, top: u64, positive: u64) -> Bracket
-    requires { ⌜ (0 < left) × (left ≤ positive) × (24 ≤ positive) × (top < 2 ^ 62) ⌝ }
+// The bits below the six highest of the largest key: keys that differ only there share one of 64 brackets.
+fn low_bits(top: u64) -> u32
+    ensures { λ r. ⌜ r < 64 ⌝ }
+{
+    let zeros = u64::leading_zeros(top);
+    if zeros < 58 { 58 - zeros } else { 0 }
+}
+
+fn one_more(count: u32) -> u32 {
+    if count < 4_000_000_000 {
+        count + 1
+    } else {
+        count
+    }
+}
+
+// How many keys each bracket holds.
+fn tally(keys: &[u64], shift: u32, counts: &mut [u32])
+    requires { ⌜ (shift < 64) × (length (now counts) ≡ 64) ⌝ }
+{
+    let mut i = 0;
+    while i < keys.len() {
+        let b = ((keys[i] >> shift) % 64) as usize;
+        counts[b] = one_more(counts[b]);
+        i += 1;
+    }
+}
+
+fn wide(x: u32) -> u64
+    ensures { λ r. ⌜ r < 4294967296 ⌝ }
+{
+    x as u64
+}
+
+// The highest bracket that is reached by `left` keys.
+fn highest(counts: &[u32], left: u64) -> u64
+    requires { ⌜ length (now counts) ≡ 64 ⌝ }
+    ensures { λ r. ⌜ r < 64 ⌝ }
+{
+    let mut b: usize = 63;
+    let mut above: u64 = 0;
+    while 0 < b {
+        above += wide(counts[b]);
+        if left <= above {
+            return b as u64;
+        }
+        b -= 1;
+    }
+    0
+}
+
+// Bracket b, cut to the numbers from 1 up to the largest key.
+fn cut_to(b: u64, shift: u32, top: u64) -> Bracket
+    requires { ⌜ (b < 64) × (shift < 64) × (top < 2 ^ 62) ⌝ }
     ensures { λ r. ⌜ (1 ≤ r .lo) × (r .lo ≤ r .hi) × (r .hi ≤ top + 1) ⌝ }
 {
-    let step = top / positive;
-    let middle = top - step * left;
-    let spread = step * (8 + positive / 32);
+    let lo = larger(1, smaller(b << shift, top));
     Bracket {
-        lo: middle - smaller(middle, spread) + 1,
-        hi: smaller(middle + spread, top) + 1,
+        lo,
+        hi: larger(lo, smaller((b + 1) << shift, top + 1)),
     }
+}
+
+// Where the threshold lies, by counts of the keys in 64 brackets. It is a guess that the caller tests.
+fn around(keys: &[u64], left: u64, top: u64) -> Bracket
+    requires { ⌜ top < 2 ^ 62 ⌝ }
+    ensures { λ r. ⌜ (1 ≤ r .lo) × (r .lo ≤ r .hi) × (r .hi ≤ top + 1) ⌝ }
+{
+    let shift = low_bits(top);
+    let mut counts = [0u32; 64];
+    tally(keys, shift, &mut counts);
+    cut_to(highest(&counts, left), shift, top)
 }
 
 // Whether the threshold lies in a bracket, and the keys in it have all been written.
@@ -193,10 +253,10 @@ fn threshold_of_all(keys: &[u64], left: u64, top: u64, positive: u64) -> Cut
 // The threshold from the keys near it where that can be done, else from all keys.
 fn threshold_near(keys: &[u64], left: u64, top: u64, positive: u64, near: &mut [u64]) -> Cut
     requires { ⌜ (0 < left) × (left ≤ positive) × (positive ≡ atLeast 1 (now keys)) × (top ≡ largest (now keys)) × (top < 2 ^ 62) ⌝ }
-    requires { ⌜ (24 ≤ positive) × (length (now near) ≡ 128) ⌝ }
+    requires { ⌜ length (now near) ≡ 128 ⌝ }
     ensures { λ r. ⌜ (Threshold left (r .theta) (now (keys .entry))) × (r .spare ≡ left - atLeast (suc (r .theta)) (now (keys .entry))) ⌝ }
 {
-    let b = around(left, top, positive);
+    let b = around(keys, left, top);
     let p = collect(keys, b.lo, b.hi, near);
     if !caught(p, left) {
         return threshold_of_all(keys, left, top, positive);
@@ -214,7 +274,7 @@ fn threshold(keys: &[u64], left: u64, top: u64, positive: u64) -> Cut
     requires { ⌜ (0 < left) × (left ≤ positive) × (positive ≡ atLeast 1 (now keys)) × (top ≡ largest (now keys)) × (top < 2 ^ 62) ⌝ }
     ensures { λ r. ⌜ (Threshold left (r .theta) (now (keys .entry))) × (r .spare ≡ left - atLeast (suc (r .theta)) (now (keys .entry))) ⌝ }
 {
-    if positive < 24 {
+    if positive < 12 {
         return threshold_of_all(keys, left, top, positive);
     }
     let mut near = [0u64; 128];
