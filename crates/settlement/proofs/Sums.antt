@@ -52,7 +52,7 @@ sums-next s us u t h = record {
 }
 
 -- ---- bounds
-only-le : (t : Bool) {x b : ℕ} → x ≤ b → onlyIf t x ≤ b
+pub only-le : (t : Bool) {x b : ℕ} → x ≤ b → onlyIf t x ≤ b
 only-le true h = h
 only-le false h = omega arith
 

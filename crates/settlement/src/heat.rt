@@ -1,8 +1,7 @@
 // Steps 2 to 5: units' heat and common heat.
 ghost use mathlib.Core.Path.{_≡_};
 ghost use mathlib.Core.Bool.{true, false};
-ghost use mathlib.Core.List.{map};
-ghost use Prim.Native.Nat.{_+_, _≤_, _<_};
+ghost use Prim.Native.Nat.{_+_, _<_};
 ghost use lib.ListN.{length, take};
 ghost use Rattle.sheet.specs.Tests.{if_then_else_};
 ghost use Rattle.sheet.specs.Layout.{sheetOf};
@@ -10,7 +9,7 @@ ghost use Rattle.sheet.specs.Fits.{Fits};
 ghost use Rattle.month.specs.Weights.{unreadUnits, allMetered};
 ghost use Rattle.month.specs.Steps.{wholeWh, heatParts, poolShares, inUnitOrder, heat, commonHeat};
 ghost use Rattle.month.specs.Month.{hotWaterWh};
-ghost use Rattle.settlement.specs.Ready.{Ready, Accepts};
+ghost use Rattle.settlement.specs.Ready.{Accepts};
 use crate::divide::Parts;
 use crate::divide::divide_by;
 use crate::divide::share;

@@ -41,7 +41,7 @@ const NOTHING: Totals = Totals {
     readings: 0,
 };
 
-fn only_if(b: bool, x: u64) -> u64
+pub(crate) fn only_if(b: bool, x: u64) -> u64
     ensures { λ r. ⌜ r ≡ onlyIf b x ⌝ }
 {
     if b { x } else { 0 }

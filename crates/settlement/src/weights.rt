@@ -4,11 +4,13 @@ ghost use mathlib.Core.Bool.{_||_};
 ghost use Prim.Native.Nat.{_+_, _*_, _-_, _≤_, _<_, min, max};
 ghost use lib.Dec.{eqb};
 ghost use lib.ListN.{length};
+ghost use Rattle.sheet.specs.Tests.{if_then_else_};
 ghost use Rattle.sheet.specs.Layout.{sheetOf};
 ghost use Rattle.sheet.specs.Fields.{unitOf, rowField, headerField};
 ghost use Rattle.month.specs.Weights.{limited, areaWeight, surfaceWeight, readWeight, unreadWeight, waterWeight, commonWaterWeight};
 ghost use Rattle.settlement.specs.Ready.{RowReady, Ready};
 use crate::totals::Totals;
+use crate::totals::only_if;
 use sheet::header;
 use sheet::rows;
 
@@ -133,27 +135,27 @@ pub(crate) fn read_weight(s: &[u8], i: usize, t: Totals) -> u64
     field(s, i, rows::READING)
 }
 
-// Step 6, units' water.
+// Step 6: what a litre or a person of a class weighs; 1 if the other class has no unit.
+fn class_factor(units: u64, others: u64, amount: u64) -> u64
+    requires { ⌜ (units ≤ 160) × (amount ≤ 160000000) ⌝ }
+    ensures { λ r. ⌜ (r ≡ (if eqb others 0 then 1 else units * amount)) × (r ≤ 25600000000) ⌝ }
+{
+    if others == 0 {
+        return 1;
+    }
+    units * amount
+}
+
+// Step 6, units' water: without a jump that depends on the unit's class.
 pub(crate) fn water_weight(s: &[u8], i: usize, t: Totals) -> u64
     requires { ⌜ RowReady (now s) i × Ready (now s) t ⌝ }
     ensures { λ r. ⌜ r ≡ waterWeight (sheetOf (now (s .entry))) (unitOf (sheetOf (now (s .entry))) i) ⌝ }
 {
     let class = field(s, i, rows::WATER_CLASS);
-    if class == 1 {
-        let litres = field(s, i, rows::LITRES);
-        if t.class2 == 0 {
-            return litres;
-        }
-        return t.class1 * litres * t.persons2;
-    }
-    if class == 2 {
-        let persons = field(s, i, rows::PERSONS);
-        if t.class1 == 0 {
-            return persons;
-        }
-        return t.class2 * persons * t.litres;
-    }
-    0
+    let litre = class_factor(t.class1, t.class2, t.persons2);
+    let person = class_factor(t.class2, t.class1, t.litres);
+    only_if(class == 1, litre * field(s, i, rows::LITRES))
+        + only_if(class == 2, person * field(s, i, rows::PERSONS))
 }
 
 // Step 6, common water: a unit of class 0 has no persons.

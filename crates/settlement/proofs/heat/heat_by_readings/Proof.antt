@@ -1,5 +1,4 @@
 -- Step 3 over the units not read and the pool, step 4 over the read ones, and both back in the order of the units.
-use mathlib.Core.Path.{refl}
 use native.Mathlib.Omega.{arith}
 use borrow.Author.Needs.{needs}
 use Rattle.settlement.proofs.Pool.{pool-divides, heat-is}
@@ -28,7 +27,7 @@ divide-by-requires : tie.Need-divide-by-requires
 divide-by-requires c κs =
     let p = c .before .before .before .before .before .before .before .before .before .before .before .before .before .before .before .before .before .pre in
     let f = c .before .before .before .before .before .before .before .before .before .pool-shares in
-    ((p .0, refl, omega (arith, f .kept), omega (arith, f .kept)), pool-divides (p .0) (p .2) (p .3) (f .last .1 .1 .1 .1 .1 .1 .0) (f .ensures .1) (f .ensures .2) (c .before .before .before .wide .ensures))
+    ((p .0, omega (arith, f .kept), omega (arith, f .kept), omega (arith, f .kept)), pool-divides (p .0) (p .2) (p .3) (f .last .1 .1 .1 .1 .1 .1 .0) (f .ensures .1) (f .ensures .2) (c .before .before .before .wide .ensures))
 
 slice-aggregate-merge : tie.Need-slice-aggregate-merge
 slice-aggregate-merge c = search needs
