@@ -125,7 +125,7 @@ fn narrow(keys: &[u64], left: u64, from: u64, to: u64, reach: u64) -> Cut
 }
 
 fn one_if(b: bool) -> u64
-    ensures { λ r. ⌜ r ≡ bit b ⌝ }
+    ensures { λ r. ⌜ (r ≡ bit b) × (r ≤ 1) ⌝ }
 {
     if b { 1 } else { 0 }
 }
