@@ -1,6 +1,5 @@
 -- Counts of the keys that reach a number. Assumes nothing.
 use mathlib.Core.Path.{_≡_, refl}
-use mathlib.Core.Bool.{Bool, true, false}
 use mathlib.Core.List.{List, [], _∷_, _++_}
 use mathlib.Core.Logic.{_⊎_, inl, inr}
 use Prim.Native.Nat.{ℕ, _+_, _≤_, _<_, min, max}
@@ -13,10 +12,6 @@ use Rattle.apportion.specs.Shares.{bit, atLeast}
 use Rattle.apportion.specs.Selection.{largest, Counted}
 
 -- ---- a test's bit
-pub bit-le : (b : Bool) → bit b ≤ 1
-bit-le true = omega arith
-bit-le false = omega arith
-
 pub bit-yes : (m k : ℕ) → m ≤ k → bit (leb m k) ≡ 1
 bit-yes m k h = rw (le-leb m k h)
 

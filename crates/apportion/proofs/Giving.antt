@@ -7,8 +7,8 @@ use native.Mathlib.Omega.{arith}
 use borrow.Author.Tests.{eq-eqb, ne-eqb}
 use lib.Dec.{ltb, eqb}
 use lib.ListN.{getD}
-use Rattle.apportion.specs.Shares.{bit, atLeast, extras, added}
-use Rattle.apportion.specs.Selection.{Threshold, one, spareAfter, given, tie, ties}
+use Rattle.apportion.specs.Shares.{bit, extras, added}
+use Rattle.apportion.specs.Selection.{Cuts, one, spareAfter, given, tie, ties}
 use Rattle.apportion.proofs.Counting.{bit-yes, bit-min}
 use Rattle.apportion.proofs.Takers.{case, above, level, under, one-le, extras-given}
 
@@ -64,11 +64,11 @@ above-then-ties θ s (x ∷ xs) (k ∷ ks) =
     ∙ ap₂ (λ (y : ℕ) (ys : List ℕ). y ∷ ys) {x = x + bit (ltb θ k) + t} {y = x + one θ s k} (omega (arith, both θ s k .0))
     (above-then-ties θ (s - t) xs ks ∙ ap (λ (r : ℕ). added xs (given θ r ks)) (both θ s k .1))
 
-pub leftover-given : (left θ spare : ℕ) (ks out : List ℕ) {mid last : List ℕ} → Threshold left θ ks → spare ≡ left - atLeast (suc θ) ks
+pub leftover-given : (left θ spare : ℕ) (ks out : List ℕ) {mid last : List ℕ} → Cuts left θ spare ks
     → mid ≡ added out (given θ 0 ks) → last ≡ added mid (ties θ spare ks) → last ≡ added out (extras left [] ks)
-leftover-given left θ spare ks out h e m l =
+leftover-given left θ spare ks out h m l =
     l
     ∙ ap (λ (xs : List ℕ). added xs (ties θ spare ks)) m
     ∙ above-then-ties θ spare out ks
-    ∙ ap (λ (x : ℕ). added out (given θ x ks)) e
-    ∙ ap (added out) (sym (extras-given left θ ks h))
+    ∙ ap (λ (x : ℕ). added out (given θ x ks)) (h .1)
+    ∙ ap (added out) (sym (extras-given left θ ks (h .0)))

@@ -11,7 +11,7 @@ use lib.Dec.{leb}
 use lib.ListN.{length, take, set, length-append}
 use lib.Seq.{take-set-le, take-suc-set}
 use Rattle.apportion.specs.Shares.{bit, atLeast}
-use Rattle.apportion.specs.Selection.{keep, inside, Collected, Threshold}
+use Rattle.apportion.specs.Selection.{keep, inside, Collected, Cuts}
 use Rattle.apportion.proofs.Counting.{bit-yes, bit-no, antitone, count-le, count-snoc}
 
 -- wanted of among parts of a width are no more than the width
@@ -38,7 +38,7 @@ module _ (lo hi : ℕ) (bracket : lo ≤ hi) where
       ]
 
   -- the keys that reach a number of the bracket lie above the bracket or in it
-  pub above-and-inside : (m : ℕ) → lo ≤ m → m ≤ hi → (ks : List ℕ) → atLeast m ks ≡ atLeast hi ks + atLeast m (inside lo hi ks)
+  above-and-inside : (m : ℕ) → lo ≤ m → m ≤ hi → (ks : List ℕ) → atLeast m ks ≡ atLeast hi ks + atLeast m (inside lo hi ks)
   above-and-inside m a b [] = refl
   above-and-inside m a b (k ∷ ks) =
       let ih = above-and-inside m a b ks in
@@ -48,7 +48,7 @@ module _ (lo hi : ℕ) (bracket : lo ≤ hi) where
         | past h e ↦ omega (arith, ap (atLeast m) (e ks), bit-yes m k (omega arith), bit-yes hi k h)
       ]
 
-  pub all-inside : (ks : List ℕ) → atLeast lo (inside lo hi ks) ≡ length (inside lo hi ks)
+  all-inside : (ks : List ℕ) → atLeast lo (inside lo hi ks) ≡ length (inside lo hi ks)
   all-inside [] = refl
   all-inside (k ∷ ks) =
       let ih = all-inside ks in
@@ -58,10 +58,10 @@ module _ (lo hi : ℕ) (bracket : lo ≤ hi) where
         | past h e ↦ omega (arith, ap (atLeast lo) (e ks), ap length (e ks))
       ]
 
-  pub none-past : (ks : List ℕ) → atLeast hi (inside lo hi ks) ≡ 0
+  none-past : (ks : List ℕ) → atLeast hi (inside lo hi ks) ≡ 0
   none-past ks = omega (arith, above-and-inside hi bracket (omega arith) ks)
 
-  pub some-inside : (ks : List ℕ) → 0 < length (inside lo hi ks) → lo < hi
+  some-inside : (ks : List ℕ) → 0 < length (inside lo hi ks) → lo < hi
   some-inside ks h =
       elim (decLe hi lo) [ yes g ↦ absurd (omega (arith, above-and-inside lo (omega arith) bracket ks, all-inside ks, antitone hi lo ks g)) | no g ↦ omega arith ]
 
@@ -86,9 +86,8 @@ module _ (lo hi : ℕ) (bracket : lo ≤ hi) where
           omega arith,
         )
 
-    pub narrowed : {θ spare : ℕ} → lo ≤ θ → θ < hi → Threshold (left - above) θ (take n near) → spare ≡ left - above - atLeast (suc θ) (take n near)
-        → (Threshold left θ ks) × (spare ≡ left - atLeast (suc θ) ks)
-    narrowed {θ} {spare} g h t s =
+    pub narrowed : (θ spare : ℕ) → lo ≤ θ → θ < hi → Cuts (left - above) θ spare (take n near) → Cuts left θ spare ks
+    narrowed θ spare g h t =
         let e = c .is-near few in
         omega (arith, c .is-above, ap (atLeast θ) e, ap (atLeast (suc θ)) e, above-and-inside θ g (omega arith) ks, above-and-inside (suc θ) (omega arith) h ks)
 

@@ -2,7 +2,7 @@
 use mathlib.Core.Bool.{Bool, true, false}
 use mathlib.Core.Path.{_≡_}
 use mathlib.Core.List.{List, [], _∷_, _++_, map}
-use Prim.Native.Nat.{ℕ, suc, _+_, _-_, _≤_, _<_, max}
+use Prim.Native.Nat.{ℕ, suc, _-_, _≤_, _<_, max}
 use lib.Dec.{leb, ltb, eqb}
 use lib.ListN.{length, take}
 use Rattle.apportion.specs.Shares.{sum, quota, remainder, bit, atLeast}
@@ -39,7 +39,11 @@ CountedWith m k count below above count′ below′ above′ =
 abbrev pub Threshold : ℕ → ℕ → List ℕ → Type 0
 Threshold left θ ks = (atLeast (suc θ) ks ≤ left) × (left ≤ atLeast θ ks)
 
--- the key before the others, if it reaches the bracket but doesn't lie above it
+-- a threshold, and how many are left for the keys that equal it
+abbrev pub Cuts : ℕ → ℕ → ℕ → List ℕ → Type 0
+Cuts left θ spare ks = (Threshold left θ ks) × (spare ≡ left - atLeast (suc θ) ks)
+
+-- the key before the others, if it reaches the bracket and doesn't lie above it
 abbrev pub keep : Bool → Bool → ℕ → List ℕ → List ℕ
 keep false b k ks = ks
 keep true true k ks = ks
@@ -73,12 +77,12 @@ abbrev pub given : ℕ → ℕ → List ℕ → List ℕ
 given θ spare [] = []
 given θ spare (k ∷ ks) = one θ spare k ∷ given θ (spareAfter θ spare k) ks
 
--- one for a key that equals θ
+-- one for a key that equals θ while there is one to spare
 abbrev pub tie : Bool → ℕ → ℕ
 tie true spare = bit (ltb 0 spare)
 tie false spare = 0
 
--- one for a key at θ while there is one to spare, none for a key above
+-- what the keys that equal θ are given
 abbrev pub ties : ℕ → ℕ → List ℕ → List ℕ
 ties θ spare [] = []
 ties θ spare (k ∷ ks) = tie (eqb k θ) spare ∷ ties θ (spare - tie (eqb k θ) spare) ks

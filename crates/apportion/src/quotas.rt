@@ -26,7 +26,7 @@ pub(crate) fn larger(a: u64, b: u64) -> u64
 }
 
 pub(crate) fn one_if(b: bool) -> u64
-    ensures { λ r. ⌜ r ≡ bit b ⌝ }
+    ensures { λ r. ⌜ (r ≡ bit b) × (r ≤ 1) ⌝ }
 {
     if b { 1 } else { 0 }
 }

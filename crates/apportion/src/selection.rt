@@ -2,10 +2,10 @@
 ghost use mathlib.Core.Path.{_≡_};
 ghost use mathlib.Core.List.{[]};
 ghost use mathlib.Core.Bool.{true};
-ghost use Prim.Native.Nat.{ℕ, suc, _+_, _-_, _^_, _≤_, _<_, min};
+ghost use Prim.Native.Nat.{ℕ, _+_, _-_, _^_, _≤_, _<_, min};
 ghost use lib.ListN.{length, getD};
 ghost use Rattle.apportion.specs.Shares.{atLeast, extras, added};
-ghost use Rattle.apportion.specs.Selection.{largest, Counted, CountedWith, Threshold, Collected, given, ties};
+ghost use Rattle.apportion.specs.Selection.{largest, Counted, CountedWith, Cuts, Collected, given, ties};
 use super::quotas::larger;
 use super::quotas::one_if;
 
@@ -93,7 +93,7 @@ pub struct Cut {
 // end, none its upper one.
 fn narrow(keys: &[u64], left: u64, from: u64, to: u64, reach: u64) -> Cut
     requires { ⌜ (from < to) × (reach ≡ atLeast from (now keys)) × (atLeast to (now keys) ≡ 0) × (0 < left) × (left ≤ reach) ⌝ }
-    ensures { λ r. ⌜ (Threshold left (r .theta) (now (keys .entry))) × (r .spare ≡ left - atLeast (suc (r .theta)) (now (keys .entry))) ⌝ }
+    ensures { λ r. ⌜ Cuts left (r .theta) (r .spare) (now (keys .entry)) ⌝ }
     ensures { λ r. ⌜ (from ≤ r .theta) × (r .theta < to) ⌝ }
 {
     let mut lo = from;
@@ -245,7 +245,7 @@ fn caught(p: Split, left: u64) -> bool
 
 fn threshold_of_all(keys: &[u64], left: u64, top: u64, positive: u64) -> Cut
     requires { ⌜ (0 < left) × (left ≤ positive) × (positive ≡ atLeast 1 (now keys)) × (top ≡ largest (now keys)) × (top < 2 ^ 62) ⌝ }
-    ensures { λ r. ⌜ (Threshold left (r .theta) (now (keys .entry))) × (r .spare ≡ left - atLeast (suc (r .theta)) (now (keys .entry))) ⌝ }
+    ensures { λ r. ⌜ Cuts left (r .theta) (r .spare) (now (keys .entry)) ⌝ }
 {
     narrow(keys, left, 1, top + 1, positive)
 }
@@ -254,7 +254,7 @@ fn threshold_of_all(keys: &[u64], left: u64, top: u64, positive: u64) -> Cut
 fn threshold_near(keys: &[u64], left: u64, top: u64, positive: u64, near: &mut [u64]) -> Cut
     requires { ⌜ (0 < left) × (left ≤ positive) × (positive ≡ atLeast 1 (now keys)) × (top ≡ largest (now keys)) × (top < 2 ^ 62) ⌝ }
     requires { ⌜ length (now near) ≡ 128 ⌝ }
-    ensures { λ r. ⌜ (Threshold left (r .theta) (now (keys .entry))) × (r .spare ≡ left - atLeast (suc (r .theta)) (now (keys .entry))) ⌝ }
+    ensures { λ r. ⌜ Cuts left (r .theta) (r .spare) (now (keys .entry)) ⌝ }
 {
     let b = around(keys, left, top);
     let p = collect(keys, b.lo, b.hi, near);
@@ -272,7 +272,7 @@ fn threshold_near(keys: &[u64], left: u64, top: u64, positive: u64, near: &mut [
 
 fn threshold(keys: &[u64], left: u64, top: u64, positive: u64) -> Cut
     requires { ⌜ (0 < left) × (left ≤ positive) × (positive ≡ atLeast 1 (now keys)) × (top ≡ largest (now keys)) × (top < 2 ^ 62) ⌝ }
-    ensures { λ r. ⌜ (Threshold left (r .theta) (now (keys .entry))) × (r .spare ≡ left - atLeast (suc (r .theta)) (now (keys .entry))) ⌝ }
+    ensures { λ r. ⌜ Cuts left (r .theta) (r .spare) (now (keys .entry)) ⌝ }
 {
     if positive < 12 {
         return threshold_of_all(keys, left, top, positive);

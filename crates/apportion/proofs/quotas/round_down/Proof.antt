@@ -87,7 +87,7 @@ counted c =
     let a = at-loop .before .before .before .before .args in
     let r = remainder (a .total) (a .whole) in
     let one : c .one-if .result ≡ bit (leb 1 (r (getD (a .ws .now) (at-loop .loop .i) 0))) =
-    c .one-if .ensures ∙ ap (λ (x : ℕ). bit (leb 1 x)) (c .before .before .before .before .before .mul-div .ensures .1) in
+    c .one-if .ensures .0 ∙ ap (λ (x : ℕ). bit (leb 1 x)) (c .before .before .before .before .before .mul-div .ensures .1) in
     omega (arith, one, ap (λ (x : List ℕ). atLeast 1 (map r x)) (next-drop (a .ws .now) (at-loop .loop .i) (omega arith)))
 
 add-positive : tie.Need-add-positive Inv-loop μ-loop

@@ -5,11 +5,10 @@ use Prim.Native.Nat.{ℕ, _-_, _≤_}
 use native.Mathlib.Nat.{mod-lt}
 use native.Mathlib.Omega.{arith}
 use borrow.Author.Needs.{needs}
-use lib.Dec.{leb}
 use lib.ListN.{length, take, getD, length-set}
 use lib.Seq.{take-all, length-take-le}
 use Rattle.apportion.specs.Selection.{Collected}
-use Rattle.apportion.proofs.Counting.{bit-le, antitone}
+use Rattle.apportion.proofs.Counting.{antitone}
 use Rattle.apportion.proofs.Near.{collected-le, collected-with}
 use Rattle.apportion.proofs.Steps.{next-take}
 use Rattle.apportion.proofs.selection.collect.Statement.{statement}
@@ -47,23 +46,21 @@ sub-within c =
     let at-loop = c .before .before .before .before in
     let a = at-loop .before .before .before .args in
     let k = getD (a .keys .now) (at-loop .loop .i) 0 in
-    omega (arith, c .one-if2 .ensures, c .before .one-if .ensures, antitone (a .lo) (a .hi) (k ∷ []) (omega arith))
+    omega (arith, antitone (a .lo) (a .hi) (k ∷ []) (omega arith))
 
 add-within : tie.Need-add-within Inv-loop μ-loop
 add-within c =
     let at-loop = c .before .before .before .before in
     let l = at-loop .loop in
     let a = at-loop .before .before .before .args in
-    let k = getD (a .keys .now) (l .i) 0 in
-    omega (arith, c .one-if2 .ensures, bit-le (leb (a .lo) k), collected-le (a .lo) (a .hi) (omega arith) (l .inv .2), length-take-le (l .i) (a .keys .now) (omega arith))
+    omega (arith, collected-le (a .lo) (a .hi) (omega arith) (l .inv .2), length-take-le (l .i) (a .keys .now) (omega arith))
 
 add-above : tie.Need-add-above Inv-loop μ-loop
 add-above c =
     let at-loop = c .before .before .before .before in
     let l = at-loop .loop in
     let a = at-loop .before .before .before .args in
-    let k = getD (a .keys .now) (l .i) 0 in
-    omega (arith, c .before .one-if .ensures, bit-le (leb (a .hi) k), collected-le (a .lo) (a .hi) (omega arith) (l .inv .2), length-take-le (l .i) (a .keys .now) (omega arith))
+    omega (arith, collected-le (a .lo) (a .hi) (omega arith) (l .inv .2), length-take-le (l .i) (a .keys .now) (omega arith))
 
 add-i : tie.Need-add-i Inv-loop μ-loop
 add-i c = omega arith
@@ -79,7 +76,7 @@ loop-again c =
       omega arith,
       simp length-set (l .inv .1),
       rw (next-take (a .keys .now) (l .i) (omega arith))
-          (collected-with (a .lo) (a .hi) (omega arith) (l .inv .1) (l .inv .2) (getD (a .keys .now) (l .i) 0) (c .one-if2 .ensures) (c .before .one-if .ensures)),
+          (collected-with (a .lo) (a .hi) (omega arith) (l .inv .1) (l .inv .2) (getD (a .keys .now) (l .i) 0) (c .one-if2 .ensures .0) (c .before .one-if .ensures .0)),
     )
 
 same-length : tie.Need-same-length Inv-loop μ-loop

@@ -4,12 +4,10 @@ use mathlib.Core.List.{List, _∷_, _++_}
 use Prim.Native.Nat.{ℕ, _+_, _-_, _^_, _≤_, _<_}
 use native.Mathlib.Omega.{arith}
 use borrow.Author.Needs.{needs}
-use lib.Dec.{ltb}
 use lib.ListN.{length, take, drop, getD, length-set}
 use lib.Seq.{getD-set-other}
 use Rattle.apportion.specs.Shares.{added}
 use Rattle.apportion.specs.Selection.{given}
-use Rattle.apportion.proofs.Counting.{bit-le}
 use Rattle.apportion.proofs.Giving.{given-above}
 use Rattle.apportion.proofs.Steps.{next-drop, turn-added, whole-list}
 use Rattle.apportion.proofs.selection.give_above.Statement.{statement}
@@ -38,11 +36,7 @@ one-if-requires : tie.Need-one-if-requires Inv-loop μ-loop
 one-if-requires c κs = search needs
 
 cast-out : tie.Need-cast-out Inv-loop μ-loop
-cast-out c =
-    let at-loop = c .before .before .before in
-    let l = at-loop .loop in
-    let a = at-loop .before .before .before .args in
-    omega (arith, c .one-if .ensures, bit-le (ltb (a .theta) (getD (a .keys .now) (l .i) 0)))
+cast-out c = omega arith
 
 mul-out : tie.Need-mul-out Inv-loop μ-loop
 mul-out c = search needs
@@ -51,11 +45,7 @@ slice-read-out : tie.Need-slice-read-out Inv-loop μ-loop
 slice-read-out c = omega arith
 
 add-out : tie.Need-add-out Inv-loop μ-loop
-add-out c =
-    let at-loop = c .before .before .before .before in
-    let l = at-loop .loop in
-    let a = at-loop .before .before .before .args in
-    omega (arith, l .inv .2 (l .i) (omega arith), c .before .one-if .ensures, bit-le (ltb (a .theta) (getD (a .keys .now) (l .i) 0)))
+add-out c = let l = c .before .before .before .before .loop in omega (arith, l .inv .2 (l .i) (omega arith))
 
 slice-write-out : tie.Need-slice-write-out Inv-loop μ-loop
 slice-write-out c = omega arith
@@ -78,7 +68,7 @@ loop-again c =
       simp length-set (l .inv .1),
       (λ j h. rw (getD-set-other (l .out) (l .i) j (getD (l .out) (l .i) 0 + o .result) 0 (omega arith)) (l .inv .2 j (omega arith))),
       turn-added (l .out) (given (a .theta) 0 (drop (l .i) ks)) rest (added (a .out .now) (given (a .theta) 0 ks)) (l .i) (o .result) (omega arith)
-          (ap (given (a .theta) 0) (next-drop ks (l .i) (omega arith)) ∙ given-above (a .theta) (getD ks (l .i) 0) (drop (l .i + 1) ks) ∙ ap (λ (b : ℕ). b ∷ rest) (sym (o .ensures)))
+          (ap (given (a .theta) 0) (next-drop ks (l .i) (omega arith)) ∙ given-above (a .theta) (getD ks (l .i) 0) (drop (l .i + 1) ks) ∙ ap (λ (b : ℕ). b ∷ rest) (sym (o .ensures .0)))
           (l .inv .3),
     )
 

@@ -39,7 +39,7 @@ returns c =
     let g = s .before .before .before .before in
     let t = g .before .before .threshold in
     let a = g .before .before .before .before .before .args in
-    leftover-given (a .left) (t .result .theta) (t .result .spare) (a .keys .now) (a .out .now) (t .ensures .0) (t .ensures .1) (g .give-above .ensures) (s .give-ties .ensures)
+    leftover-given (a .left) (t .result .theta) (t .result .spare) (a .keys .now) (a .out .now) (t .ensures) (g .give-above .ensures) (s .give-ties .ensures)
 
 pub give-leftover-spec : {M : Type 1} → statement M
 give-leftover-spec =

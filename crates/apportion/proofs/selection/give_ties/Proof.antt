@@ -4,12 +4,10 @@ use mathlib.Core.List.{List, _++_}
 use Prim.Native.Nat.{ℕ, _+_, _-_, _^_, _≤_, _<_}
 use native.Mathlib.Omega.{arith}
 use borrow.Author.Needs.{needs}
-use lib.Dec.{eqb}
 use lib.ListN.{length, take, drop, getD, length-set, take-append-drop}
 use lib.Seq.{getD-set-other}
 use Rattle.apportion.specs.Shares.{added}
 use Rattle.apportion.specs.Selection.{ties}
-use Rattle.apportion.proofs.Counting.{bit-le}
 use Rattle.apportion.proofs.Giving.{ties-next, no-ties}
 use Rattle.apportion.proofs.Steps.{next-drop, turn-added, whole-list}
 use Rattle.apportion.proofs.selection.give_ties.Statement.{statement}
@@ -50,11 +48,7 @@ one-if-requires : tie.Need-one-if-requires Inv-loop μ-loop
 one-if-requires c κs = search needs
 
 cast-out : tie.Need-cast-out Inv-loop μ-loop
-cast-out c =
-    let at-loop = c .before .before .before .before in
-    let l = at-loop .loop in
-    let a = at-loop .before .before .before .args in
-    omega (arith, c .one-if .ensures, bit-le (eqb (getD (a .keys .now) (l .i) 0) (a .theta)))
+cast-out c = omega arith
 
 mul-out : tie.Need-mul-out Inv-loop μ-loop
 mul-out c = search needs
@@ -63,21 +57,13 @@ slice-read-out : tie.Need-slice-read-out Inv-loop μ-loop
 slice-read-out c = omega arith
 
 add-out : tie.Need-add-out Inv-loop μ-loop
-add-out c =
-    let at-loop = c .before .before .before .before .before in
-    let l = at-loop .loop in
-    let a = at-loop .before .before .before .args in
-    omega (arith, l .inv .2 (l .i) (omega arith), c .before .one-if .ensures, bit-le (eqb (getD (a .keys .now) (l .i) 0) (a .theta)))
+add-out c = let l = c .before .before .before .before .before .loop in omega (arith, l .inv .2 (l .i) (omega arith))
 
 slice-write-out : tie.Need-slice-write-out Inv-loop μ-loop
 slice-write-out c = omega arith
 
 sub-left : tie.Need-sub-left Inv-loop μ-loop
-sub-left c =
-    let at-loop = c .before .before .before .before .before in
-    let l = at-loop .loop in
-    let a = at-loop .before .before .before .args in
-    omega (arith, c .before .one-if .ensures, bit-le (eqb (getD (a .keys .now) (l .i) 0) (a .theta)))
+sub-left c = omega arith
 
 add-i : tie.Need-add-i Inv-loop μ-loop
 add-i c = omega arith
@@ -97,7 +83,7 @@ loop-again c =
       simp length-set (l .inv .1),
       (λ j h. rw (getD-set-other (l .out) (l .i) j (getD (l .out) (l .i) 0 + o .result) 0 (omega arith)) (l .inv .2 j (omega arith))),
       turn-added (l .out) (ties (a .theta) (l .left) (drop (l .i) ks)) rest (added (a .out .now) (ties (a .theta) (a .spare) ks)) (l .i) (o .result) (omega arith)
-          (ap (ties (a .theta) (l .left)) (next-drop ks (l .i) (omega arith)) ∙ ties-next (a .theta) (l .left) (getD ks (l .i) 0) (o .result) (drop (l .i + 1) ks) (omega arith) (o .ensures))
+          (ap (ties (a .theta) (l .left)) (next-drop ks (l .i) (omega arith)) ∙ ties-next (a .theta) (l .left) (getD ks (l .i) 0) (o .result) (drop (l .i + 1) ks) (omega arith) (o .ensures .0))
           (l .inv .3),
     )
 

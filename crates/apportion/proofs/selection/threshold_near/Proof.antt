@@ -57,7 +57,7 @@ returns-2 c =
     let b = p .before .before .around in
     let h = outside .before .caught .ensures (not-false _ (outside .if1 .left)) in
     let n = c .narrow .ensures in
-    narrowed (b .result .lo) (b .result .hi) (b .ensures .1) (p .collect .ensures) (h .0) (h .1) (h .2) (n .1 .0) (n .1 .1) (n .0 .0) (n .0 .1)
+    narrowed (b .result .lo) (b .result .hi) (b .ensures .1) (p .collect .ensures) (h .0) (h .1) (h .2) (c .narrow .result .theta) (c .narrow .result .spare) (n .1 .0) (n .1 .1) (n .0)
 
 pub threshold-near-spec : {M : Type 1} → statement M
 threshold-near-spec =
