@@ -5,6 +5,7 @@ pub mod Dividing
 pub mod Order
 pub mod Pool
 pub mod Fours
+pub mod Halves
 pub mod Parts
 pub mod Tests
 pub mod Answers

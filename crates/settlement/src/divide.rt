@@ -10,7 +10,6 @@ ghost use Rattle.settlement.specs.Ready.{Accepts};
 use crate::gather::By;
 use crate::gather::gather;
 use crate::totals::Totals;
-use crate::weights::wide;
 
 // The total divided by the first m weights.
 pub(crate) fn share(total: u64, m: usize, weights: &[u64], remainders: &mut [u64], out: &mut [u32])
@@ -47,17 +46,14 @@ pub struct Parts {
     pub common: u64,
 }
 
-// Divided by (100 − percent, percent).
+// Divided by (100 − percent, percent): of two remainders the larger is a half or more, so the first part is half up.
 pub(crate) fn split(percent: u64, total: u64) -> Parts
     requires { ⌜ (total < 2 ^ 32 - 1) × (percent ≤ 100) ⌝ }
     ensures { λ r. ⌜ (r .units ≡ splitBy wholeWh percent total .ofUnits) × (r .common ≡ splitBy wholeWh percent total .common) ⌝ }
 {
-    let ws = [100 - percent, percent];
-    let mut remainders = [0u64; 2];
-    let mut out = [0u32; 2];
-    apportion::apportion(total, &ws, &mut remainders, &mut out);
+    let units = (total * (100 - percent) + 50) / 100;
     Parts {
-        units: wide(out[0]),
-        common: wide(out[1]),
+        units,
+        common: total - units,
     }
 }

@@ -1,51 +1,25 @@
--- The two shares, read back.
-use borrow.Author.Needs.{needs}
+use mathlib.Core.Path.{sym}
+use native.Mathlib.Omega.{arith}
 use Rattle.month.specs.Steps.{splitBy}
+use Rattle.settlement.proofs.Halves.{both, half-up-le, first-part, second-part}
 use Rattle.settlement.proofs.divide.split.Statement.{statement}
 use Rattle.settlement.proofs.divide.split.Tie as tie
 
-sub-t6 : tie.Need-sub-t6
-sub-t6 c = search needs
+sub-units : tie.Need-sub-units
+sub-units c = omega arith
 
-slice-aggregate-apportion : tie.Need-slice-aggregate-apportion
-slice-aggregate-apportion c = search needs
+mul-units : tie.Need-mul-units
+mul-units c = omega (arith, both (c .args .total) (c .args .percent) (omega arith))
 
-slice-aggregate-apportion-2 : tie.Need-slice-aggregate-apportion-2
-slice-aggregate-apportion-2 c = search needs
+add-units : tie.Need-add-units
+add-units c = omega (arith, both (c .args .total) (c .args .percent) (omega arith))
 
-slice-aggregate-apportion-3 : tie.Need-slice-aggregate-apportion-3
-slice-aggregate-apportion-3 c = search needs
-
-apportion-requires : tie.Need-apportion-requires
-apportion-requires c κs = search needs
-
-array-read-wide : tie.Need-array-read-wide
-array-read-wide c = search needs
-
-wide-requires : tie.Need-wide-requires
-wide-requires c κs = search needs
-
-array-read-wide-2 : tie.Need-array-read-wide-2
-array-read-wide-2 c = search needs
-
-wide-requires-2 : tie.Need-wide-requires-2
-wide-requires-2 c κs = search needs
+sub-t4 : tie.Need-sub-t4
+sub-t4 c = half-up-le (c .args .total) (c .args .percent) (omega arith)
 
 returns : tie.Need-returns
 unfolding splitBy
-returns c = ((cc), (cc))
+returns c = let a = c .args in (sym (first-part (a .total) (a .percent) (omega arith)), sym (second-part (a .total) (a .percent) (omega arith)))
 
 pub split-spec : {M : Type 1} → statement M
-split-spec =
-    tie.close
-    (tie.spec
-    sub-t6
-    slice-aggregate-apportion
-    slice-aggregate-apportion-2
-    slice-aggregate-apportion-3
-    apportion-requires
-    array-read-wide
-    wide-requires
-    array-read-wide-2
-    wide-requires-2
-    returns)
+split-spec = tie.close (tie.spec sub-units mul-units add-units sub-t4 returns)
