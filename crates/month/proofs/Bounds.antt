@@ -8,7 +8,7 @@ use native.Mathlib.Omega.{arith}
 use native.Mathlib.Nat.{mul-le-mul}
 use borrow.Author.Tests.{eqb-true}
 use lib.Dec.{eqb}
-use lib.ListN.{length, getD, take, length-take}
+use lib.ListN.{length, getD}
 use Rattle.apportion.specs.Shares.{sum}
 use Rattle.sheet.specs.Layout.{UnitRow, Sheet, waterReading}
 use Rattle.sheet.specs.Fits.{Each, UnitFits}
@@ -17,7 +17,7 @@ use Rattle.month.specs.Steps.{hotWater}
 use Rattle.month.specs.Month.{hotWaterWh, billCents}
 use Rattle.month.specs.Accepted.{CheckedSheet}
 use Rattle.month.specs.Bounds.{SumBounds, UnitBounds, WeightBounds}
-use Rattle.month.proofs.Lists.{decided, sum-append, each-take}
+use Rattle.month.proofs.Lists.{decided, sum-append}
 use Rattle.month.proofs.Accepted.{each-those}
 
 -- ---- sums
@@ -51,11 +51,6 @@ module _ (s : Sheet) (c : CheckedSheet s) where
   over-those : (p : UnitRow → Bool) (f : UnitRow → ℕ) (b : ℕ) → ((u : UnitRow) → UnitFits s u → f u ≤ b) → sumOf f (those p (s .units)) ≤ 160 * b
   over-those p f b le =
       sum-at-most (UnitFits s) f b le 160 (those p (s .units)) (each-those (UnitFits s) p (s .units) (c .units)) (omega (arith, those-fewer p (s .units), few))
-
-  -- over the first i units
-  pub prefix-at-most : (f : UnitRow → ℕ) (b : ℕ) → ((u : UnitRow) → UnitFits s u → f u ≤ b) → (i : ℕ) → sumOf f (take i (s .units)) ≤ 160 * b
-  prefix-at-most f b le i =
-      sum-at-most (UnitFits s) f b le 160 (take i (s .units)) (each-take (UnitFits s) i (s .units) (c .units)) (omega (arith, length-take i (s .units), few))
 
   common-water-le : (u : UnitRow) → UnitFits s u → commonWaterWeight u ≤ 50
   common-water-le u h = elim (decided (eqb (u .waterClass) 1 || eqb (u .waterClass) 2)) [ inl e ↦ rw e (h .persons) | inr e ↦ rw e (omega arith) ]

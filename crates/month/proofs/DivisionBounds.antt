@@ -1,20 +1,18 @@
 -- What dividing asks for (specs/Bounds.antt), in every division of an accepted sheet. Assumes nothing.
-use mathlib.Core.Bool.{true}
-use mathlib.Core.Path.{_≡_}
-use mathlib.Core.List.{List, [], _∷_, _++_, map}
-use Prim.Native.Nat.{ℕ, _*_, _-_, _≤_}
+use mathlib.Core.List.{List, [], _∷_, map}
+use Prim.Native.Nat.{ℕ, _-_, _≤_}
 use native.Mathlib.Omega.{arith}
 use lib.ListN.{length}
 use Rattle.apportion.specs.Shares.{sum}
 use Rattle.sheet.specs.Layout.{Sheet}
 use Rattle.sheet.specs.Fits.{Each}
-use Rattle.month.specs.Weights.{unreadUnits, hasPool, totalArea, unreadWeights, poolWeight, waterWeight, commonWaterWeight}
+use Rattle.month.specs.Weights.{unreadUnits, totalArea, waterWeight, commonWaterWeight}
 use Rattle.month.specs.Steps.{wholeWh, hotWater, spaceHeat, waterParts, energies}
 use Rattle.month.specs.Month.{hotWaterWh, spaceHeatWh, billCents}
 use Rattle.month.specs.Accepted.{AcceptedSheet}
 use Rattle.month.specs.Laws.{_by_, unitsHeatDivisions, heatDivisions, divisions}
 use Rattle.month.specs.Bounds.{DivisionFits}
-use Rattle.month.proofs.Lists.{sum-append, each-append}
+use Rattle.month.proofs.Lists.{each-append}
 use Rattle.month.proofs.Bounds.{sum-bounds, weight-bounds}
 use Rattle.month.proofs.Divisions.{by-meters, by-load, by-area, by-pool, way, split-sum, units-heat, common-heat, pool, pool-fair}
 use Rattle.month.proofs.Sums.{heat-parts, energies-sum}
@@ -49,11 +47,6 @@ module _ (s : Sheet) (a : AcceptedSheet s) where
   pub common-water-le : waterParts wholeWh s .common ≤ 4000000000
   unfolding waterParts hotWaterWh
   common-water-le = omega (arith, split-sum (s .commonWaterPercent) (hotWater wholeWh s), hot-water-le)
-
-  -- step 3's weights add to 10,000 × P
-  pub pool-whole : hasPool s ≡ true → sum (unreadWeights s ++ poolWeight s ∷ []) ≡ 10000 * totalArea s
-  unfolding poolWeight
-  pool-whole h = omega (arith, sum-append (unreadWeights s) (poolWeight s ∷ []), a .pool-fits h)
 
   -- ---- divisions
   heat-fit : Each DivisionFits (heatDivisions s)

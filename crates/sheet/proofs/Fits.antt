@@ -1,9 +1,9 @@
 -- A sheet that passes 1 to 7 has what specs/Fits.antt lists. Assumes nothing.
-use mathlib.Core.Path.{_≡_, refl, sym, subst}
+use mathlib.Core.Path.{_≡_, refl, subst}
 use mathlib.Core.Bool.{Bool, true, false, _&&_}
 use mathlib.Core.List.{List, [], _∷_, map}
 use mathlib.Core.Option.{Option, none, some}
-use Prim.Native.Nat.{ℕ, zero, suc, _+_, _*_, _≤_, _<_}
+use Prim.Native.Nat.{ℕ, zero, suc, _+_, _≤_, _<_}
 use native.Mathlib.Omega.{arith}
 use lib.Dec.{leb, eqb}
 use lib.ListN.{length, getD, take}
@@ -11,12 +11,11 @@ use borrow.Author.Tests.{leb-true, leb-false, eqb-true, ne-eqb, not-false}
 use Rattle.sheet.specs.declared.ranges.Range.{Range}
 use Rattle.sheet.specs.declared.refusal.Outcome.the-variants.{Accepted}
 use Rattle.sheet.specs.Tests.{if_then_else_, all}
-use Rattle.sheet.specs.Layout.{UnitRow, Sheet, unitRow, sheetOf, byte, le32, waterReading}
-use Rattle.sheet.specs.Fields.{unitRowAt, unitOf}
+use Rattle.sheet.specs.Layout.{UnitRow, Sheet, sheetOf, waterReading}
 use Rattle.sheet.specs.Check.{entry, _to_, _within_, headerTests, rowTests, rowRules, sheetRules, checked, basePercentRanges, commonHeatRanges, unmeteredFactorRanges, commonWaterRanges, lossFactorRanges, firstWaterReadingRanges, otherWaterReadingRanges, statusRanges, waterClassRanges, readingRanges, litresRanges, personsRanges}
 use Rattle.sheet.specs.Fits.{InRange, Each, Increasing, idOf, UnitFits, HeaderFits, Fits}
 use Rattle.sheet.proofs.Passed.{NoneHolds, none-holds, and-true, AllTrue, all-of, in-range}
-use Rattle.sheet.proofs.Units.{units-count, unit-at}
+use Rattle.sheet.proofs.Units.{units-count}
 
 -- ---- a bound on the first n entries of a table
 abbrev pub atMost : ℕ → List Range → Bool
@@ -184,14 +183,3 @@ pub each-at : {A : Type 0} (P : A → Type 0) (xs : List A) (i : ℕ) (d : A) �
 each-at P [] i d e h = absurd (omega arith)
 each-at P (x ∷ xs) zero d e h = e .0
 each-at P (x ∷ xs) (suc i) d e h = each-at P xs i d (e .1) (omega arith)
-
-pub unit-fits-at : (perUnit : ℕ) (bytes : List ℕ) (i : ℕ) → Fits perUnit bytes → i < sheetOf bytes .unitCount → UnitFits (sheetOf bytes) (unitOf (sheetOf bytes) i)
-unit-fits-at perUnit bytes i f h = each-at (UnitFits (sheetOf bytes)) (sheetOf bytes .units) i (unitRow []) (f .units) (omega (arith, f .unitsLength))
-
--- ---- an id has no range of its own: it fits 32 bits where each byte fits 8
-pub le32-fits : (bytes : List ℕ) (at : ℕ) → ((k : ℕ) → byte bytes k < 256) → le32 bytes at < 4294967296
-le32-fits bytes at h = omega (arith, h at, h (at + 1), h (at + 2), h (at + 3))
-
-pub id-fits : (bytes : List ℕ) (i : ℕ) → ((k : ℕ) → byte bytes k < 256) → i < sheetOf bytes .unitCount → unitOf (sheetOf bytes) i .id < 4294967296
-unfolding unitRowAt
-id-fits bytes i h l = subst (λ (u : UnitRow). u .id < 4294967296) (sym (unit-at bytes i l)) (le32-fits bytes (48 + 32 * i) h)

@@ -1,5 +1,5 @@
 -- The place of a refusal is 0 or a row below 160. Assumes nothing.
-use mathlib.Core.Path.{_≡_, refl, ap, subst, sym, _∙_}
+use mathlib.Core.Path.{_≡_, refl}
 use mathlib.Core.Bool.{Bool, true, false, not}
 use mathlib.Core.List.{List, [], _∷_, _++_}
 use mathlib.Core.Option.{Option, none, some}
@@ -8,11 +8,10 @@ use native.Mathlib.Omega.{arith}
 use borrow.Author.Tests.{not-false}
 use lib.Dec.{ltb, eqb}
 use lib.ListN.{length}
-use Rattle.sheet.specs.declared.refusal.Outcome.the-variants.{Accepted, Refused}
 use Rattle.sheet.specs.Tests.{all}
 use Rattle.sheet.specs.Refusals.{Rule, _⇒_, firstRefusal, placeOf, PlaceBelow}
 use Rattle.sheet.specs.Layout.{UnitRow, Sheet, sheetOf}
-use Rattle.sheet.specs.Check.{headerTests, rowTests, notAbove, rowRules, sheetRules, sameList, sheetMagic, checked}
+use Rattle.sheet.specs.Check.{headerTests, rowTests, notAbove, rowRules, sheetRules, sameList, sheetMagic}
 use Rattle.sheet.proofs.Passed.{all-of, in-range}
 use Rattle.sheet.proofs.Units.{units-count}
 

@@ -1,11 +1,10 @@
 -- Refusal 16: two lists of ids, item by item, and the book's building. Assumes nothing.
-use mathlib.Core.Path.{_≡_, refl, sym, ap, ap₂, _∙_}
+use mathlib.Core.Path.{_≡_, refl, sym, ap₂, _∙_}
 use mathlib.Core.Bool.{Bool, true, false, _&&_}
 use mathlib.Core.List.{List, [], _∷_, map}
-use Prim.Native.Nat.{ℕ, zero, suc, _+_, _<_}
+use Prim.Native.Nat.{ℕ, zero, suc, _<_}
 use native.Mathlib.Omega.{arith}
 use native.Mathlib.Decide.{ℕ-discrete}
-use native.Mathlib.Numerals.{add-one}
 use lib.Dec.{eqb}
 use borrow.Author.Tests.{eq-eqb, ne-eqb}
 use lib.ListN.{length, getD, take, drop, List·getD-map}
@@ -15,25 +14,6 @@ use Rattle.sheet.specs.Check.{sameList}
 use Rattle.yearbook.specs.LentBook.{unitCountIn, otherBuilding}
 
 -- ---- two lists are the same
-and-swap : (r s t : Bool) → (r && (s && t)) ≡ (s && (r && t))
-and-swap true s t = refl
-and-swap false true t = refl
-and-swap false false t = refl
-
--- one item more, as a loop compares them
-pub same-next : (i : ℕ) (xs ys : List ℕ) → i < length xs → i < length ys
-    → sameList (take (i + 1) xs) (take (i + 1) ys) ≡ (eqb (getD xs i 0) (getD ys i 0) && sameList (take i xs) (take i ys))
-same-next i xs ys h k = rw add-one (go i xs ys h k)
-  where
-    go : (i : ℕ) (xs ys : List ℕ) → i < length xs → i < length ys
-        → sameList (take (suc i) xs) (take (suc i) ys) ≡ (eqb (getD xs i 0) (getD ys i 0) && sameList (take i xs) (take i ys))
-    go i [] ys h k = absurd (omega arith)
-    go i (x ∷ xs) [] h k = absurd (omega arith)
-    go zero (x ∷ xs) (y ∷ ys) h k = refl
-    go (suc i) (x ∷ xs) (y ∷ ys) h k =
-        ap (λ (t : Bool). eqb x y && t) (go i xs ys (omega arith) (omega arith))
-        ∙ and-swap (eqb x y) (eqb (getD xs i 0) (getD ys i 0)) (sameList (take i xs) (take i ys))
-
 pub same-lists : (xs ys : List ℕ) → xs ≡ ys → sameList xs ys ≡ true
 same-lists xs ys e = rw e (go ys)
   where

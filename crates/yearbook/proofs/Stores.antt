@@ -1,13 +1,13 @@
 -- Reading a list after writes. Assumes nothing.
 use mathlib.Core.Path.{_≡_, refl, ap, sym, _∙_}
-use mathlib.Core.List.{List, [], _∷_, _++_, append-assoc}
+use mathlib.Core.List.{List, [], _∷_, _++_}
 use Prim.Native.Nat.{ℕ, zero, suc, _+_, _≤_, _<_}
 use native.Mathlib.Omega.{arith}
 use native.Mathlib.Decide.{decLt}
 use native.Mathlib.Nat.{add-zero, add-suc, suc-add}
 use native.Mathlib.Numerals.{add-one}
-use lib.ListN.{length, getD, set, take, drop, replicate, length-set, length-replicate, getD-replicate, List·getD-eq-default}
-use lib.Seq.{sets, getD-set-same, getD-set-other, length-take-le, take-suc, sets-eq, drop-drop}
+use lib.ListN.{length, getD, set, take, replicate, length-set, length-replicate, getD-replicate, List·getD-eq-default}
+use lib.Seq.{sets, getD-set-same, getD-set-other, length-take-le, take-suc}
 
 -- ---- a run of writes: the places below it, above it, in it
 pub getD-sets-below : (vs l : List ℕ) (i k : ℕ) → k < i → getD (sets l i vs) k 0 ≡ getD l k 0
@@ -38,10 +38,6 @@ pub store-next : (vs l : List ℕ) (base i : ℕ) → i < length vs → set (set
 store-next vs l base i h =
     let e : length (take i vs) ≡ i = length-take-le i vs (omega arith) in
     rw (add-one, take-suc vs i 0, sets-snoc, e)
-
--- a part of the list, lent and written over
-pub sets-part : (vs l : List ℕ) (base : ℕ) → base + length vs ≤ length l → take base l ++ (vs ++ drop (length vs) (drop base l)) ≡ sets l base vs
-sets-part vs l base h = rw (drop-drop (length vs) base l) (sym (sets-eq vs l base h ∙ append-assoc (take base l) vs _))
 
 -- ---- zeros
 pub zero-at : (n x : ℕ) → getD (replicate {A = ℕ} n 0) x 0 ≡ 0

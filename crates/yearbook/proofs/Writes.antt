@@ -4,20 +4,18 @@ use mathlib.Core.Logic.{_≢_, _⊎_, inl, inr}
 use mathlib.Core.List.{List, map}
 use Prim.Native.Nat.{ℕ, _+_, _*_, _-_, _≤_, _<_}
 use native.Mathlib.Omega.{arith}
-use native.Mathlib.Decide.{ℕ-discrete, decLt}
-use borrow.Author.Tests.{ne-eqb}
+use native.Mathlib.Decide.{decLt}
 use lib.ListN.{length, getD, set, length-set, length-replicate, length-append, length-map, List·getD-eq-default}
 use lib.Seq.{getD-set-same, getD-set-other, length-sets, ext-getD}
 use Rattle.sheet.specs.declared.refusal.Outcome.{Outcome}
 use Rattle.sheet.specs.declared.refusal.Outcome.the-variants.{Accepted, Refused}
-use Rattle.sheet.specs.Refusals.{firstRefusal}
 use Rattle.sheet.specs.Layout.{sheetOf}
 use Rattle.sheet.proofs.Units.{units-count}
 use Rattle.month.specs.Month.{Month, Settled, monthOf, settledSheet}
 use Rattle.month.proofs.Laws.{settled-month}
 use Rattle.yearbook.specs.Calls.{Call, post, replace, withdraw, year}
 use Rattle.yearbook.specs.LentBook.{unitCountIn, markAt, meterAt, billAt, blockAt, padded, putMonth, putSheet, clearMonth, zeroBook, freshBook}
-use Rattle.yearbook.specs.LentBook.{afterwards, openAnswer, bookOpened, postAnswer, bookPosted, replaceAnswer, bookReplaced, withdrawAnswer, bookWithdrawn, lentAfter}
+use Rattle.yearbook.specs.LentBook.{afterwards, postAnswer, bookPosted, replaceAnswer, bookReplaced, withdrawAnswer, bookWithdrawn, lentAfter}
 use Rattle.yearbook.proofs.Stores.{getD-sets-below, getD-sets-above, getD-sets-in, zero-at}
 
 -- ---- a month: its mark, M, bill and block
@@ -116,13 +114,6 @@ call-keeps-length b (post sheet) = afterwards-length (postAnswer b sheet) b _ (p
 call-keeps-length b (replace sheet) = afterwards-length (replaceAnswer b sheet) b _ (put-length b _ _ _ _ _)
 call-keeps-length b (withdraw month) = afterwards-length (withdrawAnswer b month) b _ (put-length b _ _ _ _ _)
 call-keeps-length b (year place) = refl
-
-pub open-keeps-length : (b sheet : List ℕ) → length (bookOpened b sheet) ≡ length b
-unfolding bookOpened openAnswer firstRefusal
-open-keeps-length b sheet = elim (ℕ-discrete (length b) 15557) [
-  | yes e ↦ afterwards-length (openAnswer b sheet) b (freshBook sheet) (fresh-length sheet ∙ sym e)
-  | no d ↦ rw (ne-eqb (length b) 15557 d)
-]
 
 -- ---- the write of a settled sheet, by the month it settles to
 pub put-settled : (b sheet : List ℕ) (m : Month) → settledSheet sheet ≡ Settled.settled m

@@ -1,6 +1,5 @@
 use Prim.Native.Nat.{_-_, _≤_}
 use borrow.Author.Needs.{needs}
-use lib.ListN.{length}
 use Rattle.settlement_vectors.proofs.main.Statement.{statement}
 use Rattle.settlement_vectors.proofs.main.Tie as tie
 

@@ -5,7 +5,6 @@ use native.Mathlib.Omega.{arith}
 use borrow.Author.Needs.{needs}
 use lib.ListN.{length, take, length-set}
 use lib.Seq.{take-all}
-use Rattle.apportion.specs.Shares.{bit}
 use Rattle.sheet.specs.Layout.{sheetOf}
 use Rattle.sheet.specs.Fields.{unitOf}
 use Rattle.settlement.specs.declared.gather.By.{By}

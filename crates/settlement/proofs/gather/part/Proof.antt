@@ -3,7 +3,6 @@ use mathlib.Core.Path.{sym, ap, _∙_}
 use mathlib.Core.Bool.{not}
 use Prim.Native.Nat.{ℕ}
 use lib.Dec.{eqb}
-use lib.ListN.{take}
 use Rattle.apportion.specs.Shares.{bit}
 use Rattle.sheet.specs.Layout.{sheetOf}
 use Rattle.sheet.specs.Fields.{unitOf}

@@ -3,7 +3,7 @@ use mathlib.Core.Path.{_≡_, refl, sym, ap, subst, _∙_}
 use mathlib.Core.List.{List}
 use Prim.Native.Nat.{ℕ, _+_, _-_, _≤_}
 use native.Mathlib.Omega.{arith}
-use lib.ListN.{length, take, length-take}
+use lib.ListN.{take, length-take}
 use lib.Seq.{take-all}
 use Rattle.sheet.specs.Layout.{UnitRow, sheetOf}
 use Rattle.sheet.specs.Fields.{unitOf}

@@ -1,5 +1,4 @@
 -- `no_device` meets its contract.
-use lib.Dec.{eqb}
 use borrow.Author.Tests.{eq-eqb, ne-eqb}
 use Rattle.settlement.proofs.weights.no_device.Statement.{statement}
 use Rattle.settlement.proofs.weights.no_device.Tie as tie

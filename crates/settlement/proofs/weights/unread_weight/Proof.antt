@@ -6,7 +6,7 @@ use native.Mathlib.Omega.{arith}
 use lib.Dec.{eqb}
 use Rattle.sheet.specs.Layout.{sheetOf}
 use Rattle.sheet.specs.Fields.{unitOf}
-use Rattle.month.specs.Weights.{unreadWeight, readWeight}
+use Rattle.month.specs.Weights.{unreadWeight}
 use Rattle.month.proofs.Bounds.{three-le}
 use Rattle.settlement.proofs.Rows.{unit-fits, two-le}
 use borrow.Author.Needs.{needs}
