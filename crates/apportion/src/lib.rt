@@ -1,4 +1,5 @@
 // Dividing a whole by weights, exactly, by the largest-remainder method (document 01, "Dividing").
+mod narrowing;
 mod quotas;
 mod quotient;
 mod selection;

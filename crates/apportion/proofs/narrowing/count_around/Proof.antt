@@ -10,8 +10,8 @@ use lib.Seq.{take-all}
 use Rattle.apportion.specs.Selection.{Counted}
 use Rattle.apportion.proofs.Counting.{count-le}
 use Rattle.apportion.proofs.Steps.{next-take}
-use Rattle.apportion.proofs.selection.count_around.Statement.{statement}
-use Rattle.apportion.proofs.selection.count_around.Tie as tie
+use Rattle.apportion.proofs.narrowing.count_around.Statement.{statement}
+use Rattle.apportion.proofs.narrowing.count_around.Tie as tie
 
 abbrev Inv-loop : tie.InvT-loop
 Inv-loop keys m lo hi c₀ i₀ c i = (i ≤ length keys) × Counted m lo hi (c .count) (c .below) (c .above) (take i keys)

@@ -4,8 +4,8 @@ use mathlib.Core.Path.{_≡_, ap}
 use Prim.Native.Nat.{ℕ, suc, _+_, _-_, _≤_, _<_}
 use native.Mathlib.Omega.{arith}
 use Rattle.apportion.specs.Shares.{atLeast}
-use Rattle.apportion.proofs.selection.narrow.Statement.{statement}
-use Rattle.apportion.proofs.selection.narrow.Tie as tie
+use Rattle.apportion.proofs.narrowing.narrow.Statement.{statement}
+use Rattle.apportion.proofs.narrowing.narrow.Tie as tie
 
 abbrev Inv-loop : tie.InvT-loop
 Inv-loop keys left from to reach lo₀ hi₀ reach-lo₀ reach-hi₀ turn₀ lo hi reach-lo reach-hi turn =

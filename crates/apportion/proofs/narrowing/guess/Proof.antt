@@ -3,8 +3,8 @@ use Prim.Native.Nat.{_-_}
 use native.Mathlib.Omega.{arith}
 use Rattle.apportion.proofs.Near.{part-le}
 use borrow.Author.Needs.{needs}
-use Rattle.apportion.proofs.selection.guess.Statement.{statement}
-use Rattle.apportion.proofs.selection.guess.Tie as tie
+use Rattle.apportion.proofs.narrowing.guess.Statement.{statement}
+use Rattle.apportion.proofs.narrowing.guess.Tie as tie
 
 sub-result : tie.Need-sub-result
 sub-result c = search needs

@@ -1,8 +1,8 @@
 -- `counted_with` meets its contract: a key below m, and one that reaches it.
 use Rattle.apportion.proofs.Counting.{counted-below, counted-reaching}
 use borrow.Author.Needs.{needs}
-use Rattle.apportion.proofs.selection.counted_with.Statement.{statement}
-use Rattle.apportion.proofs.selection.counted_with.Tie as tie
+use Rattle.apportion.proofs.narrowing.counted_with.Statement.{statement}
+use Rattle.apportion.proofs.narrowing.counted_with.Tie as tie
 
 add-larger : tie.Need-add-larger
 add-larger c = search needs
