@@ -3,10 +3,23 @@
 use crate::sheet::MAX_WH;
 use crate::wrong::{self, End};
 
-/// A field's range, or one of its ranges where it hangs on model, source,
-/// status or water class.
-#[derive(Clone, Copy, Debug, PartialEq, Eq)]
-pub enum Range {
+/// Declares the ranges, and the list of all of them.
+macro_rules! ranges {
+    ($($(#[$doc:meta])* $name:ident,)*) => {
+        /// A field's range, or one of its ranges where it hangs on model,
+        /// source, status or water class.
+        #[derive(Clone, Copy, Debug, PartialEq, Eq)]
+        pub enum Range {
+            $($(#[$doc])* $name,)*
+        }
+
+        impl Range {
+            pub const ALL: &'static [Range] = &[$(Range::$name,)*];
+        }
+    };
+}
+
+ranges! {
     Month,
     Model,
     UnitCount,
@@ -70,47 +83,6 @@ pub enum Field {
 }
 
 impl Range {
-    pub const ALL: [Range; 38] = [
-        Month,
-        Model,
-        UnitCount,
-        Source,
-        BasePercentModel3,
-        BasePercentModel4,
-        BasePercentElse,
-        CommonHeatPercent,
-        CommonHeatPercentElse,
-        CommonWaterPercent,
-        CommonWaterPercentSource0,
-        UnmeteredFactor,
-        UnmeteredFactorElse,
-        LossFactor,
-        LossFactorElse,
-        SharedMeter,
-        Price,
-        FirstInputSource0,
-        FirstInputSource2,
-        FirstInputElse,
-        LaterInputSource3,
-        LaterInputElse,
-        StatusModels1And2,
-        StatusElse,
-        WaterClassSource0,
-        WaterClassElse,
-        LocationFactor,
-        HeatedArea,
-        RiserSurface,
-        HeatLoad,
-        ReadingModels3And4,
-        ReadingModel5,
-        ReadingElse,
-        LitresClass1,
-        LitresElse,
-        Persons,
-        PersonsClass0,
-        Reserved,
-    ];
-
     /// Where the field lies: in the header or in a row, and how many bytes
     /// it has.
     pub fn field(self) -> Field {

@@ -210,7 +210,7 @@ readings! {
 impl Reading {
     pub fn all() -> Vec<Reading> {
         let named = NAMED.iter().map(|&(reading, _)| reading);
-        let ends = Range::ALL.into_iter().flat_map(|range| {
+        let ends = Range::ALL.iter().flat_map(|&range| {
             let ends = range.ends_to_shift().into_iter();
             ends.map(move |end| Reading::Ends(range, end))
         });
