@@ -9,7 +9,7 @@ use borrow.Author.Tests.{le-leb, lt-leb}
 use lib.Dec.{leb, ltb}
 use lib.ListN.{length}
 use Rattle.apportion.specs.Shares.{bit, atLeast}
-use Rattle.apportion.specs.Selection.{largest, Counted}
+use Rattle.apportion.specs.Inner.Selection.{largest, Counted}
 
 -- ---- a test's bit
 pub bit-yes : (m k : ℕ) → m ≤ k → bit (leb m k) ≡ 1

@@ -8,7 +8,7 @@ use borrow.Author.Tests.{eq-eqb, ne-eqb}
 use lib.Dec.{ltb, eqb}
 use lib.ListN.{getD}
 use Rattle.apportion.specs.Shares.{bit, extras, added}
-use Rattle.apportion.specs.Selection.{Cuts, one, spareAfter, given, tie, ties}
+use Rattle.apportion.specs.Inner.Selection.{Cuts, one, spareAfter, given, tie, ties}
 use Rattle.apportion.proofs.Counting.{bit-yes, bit-min}
 use Rattle.apportion.proofs.Takers.{case, above, level, under, one-le, extras-given}
 

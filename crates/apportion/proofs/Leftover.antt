@@ -8,7 +8,7 @@ use native.Mathlib.Omega.{arith}
 use lib.Dec.{leb}
 use lib.ListN.{length, getD, length-map, List·getD-map}
 use Rattle.apportion.specs.Shares.{bit, sum, atLeast, added, quota, remainder, remainders, leftover}
-use Rattle.apportion.specs.Selection.{largest}
+use Rattle.apportion.specs.Inner.Selection.{largest}
 use Rattle.apportion.proofs.Counting.{bit-cases, antitone, at-zero}
 
 -- ---- lists

@@ -11,7 +11,7 @@ use lib.Dec.{leb}
 use lib.ListN.{length, take, set, length-append}
 use lib.Seq.{take-set-le, take-suc-set}
 use Rattle.apportion.specs.Shares.{bit, atLeast}
-use Rattle.apportion.specs.Selection.{keep, inside, Collected, Cuts}
+use Rattle.apportion.specs.Inner.Selection.{keep, inside, Collected, Cuts}
 use Rattle.apportion.proofs.Counting.{bit-yes, bit-no, antitone, count-le, count-snoc}
 
 -- wanted of among parts of a width are no more than the width

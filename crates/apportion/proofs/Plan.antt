@@ -5,7 +5,7 @@ use Prim.Native.Nat.{ℕ, suc, _-_, _≤_, _<_}
 use native.Mathlib.Omega.{arith}
 use lib.ListN.{length, getD, length-map, replicate}
 use Rattle.apportion.specs.Shares.{sum, quota, quotas, remainder, remainders, leftover, atLeast, extras, added, sharesBy, shares}
-use Rattle.apportion.specs.Selection.{largest, RoundedDown}
+use Rattle.apportion.specs.Inner.Selection.{largest, RoundedDown}
 use Rattle.apportion.proofs.Leftover.{quotas-le, largest-lt, leftover-le, item-le}
 use Rattle.apportion.proofs.Laws.{all-zero, remainder-zero, no-extras, shares-none}
 

@@ -9,7 +9,7 @@ use borrow.Author.Tests.{le-leb, lt-leb}
 use lib.Dec.{leb, ltb}
 use lib.ListN.{length}
 use Rattle.apportion.specs.Shares.{bit, sum, atLeast, extras}
-use Rattle.apportion.specs.Selection.{largest, Threshold, one, spareAfter, given}
+use Rattle.apportion.specs.Inner.Selection.{largest, Threshold, one, spareAfter, given}
 use Rattle.apportion.proofs.Counting.{bit-yes, bit-no, bit-cases, bit-min, antitone, at-zero, past-largest}
 
 -- a key above, at or below θ, with its bits and what it is given

@@ -2,7 +2,7 @@
 ghost use mathlib.Core.Path.{_≡_};
 ghost use Prim.Native.Nat.{_+_, _-_, _^_, _≤_, _<_, min};
 ghost use Rattle.apportion.specs.Shares.{atLeast};
-ghost use Rattle.apportion.specs.Selection.{Counted, CountedWith, Cuts};
+ghost use Rattle.apportion.specs.Inner.Selection.{Counted, CountedWith, Cuts};
 use super::quotas::larger;
 
 // How many keys reach a number m. No key lies from `below` up to m, nor from m up to `above`.

@@ -3,7 +3,7 @@ ghost use mathlib.Core.Path.{_≡_};
 ghost use Prim.Native.Nat.{_^_, _≤_, _<_, max};
 ghost use lib.ListN.{length, replicate};
 ghost use Rattle.apportion.specs.Shares.{sum, bit};
-ghost use Rattle.apportion.specs.Selection.{RoundedDown};
+ghost use Rattle.apportion.specs.Inner.Selection.{RoundedDown};
 use super::quotient::mul_div;
 
 pub(crate) fn sum_of(ws: &[u64]) -> u64

@@ -5,7 +5,7 @@ ghost use mathlib.Core.Bool.{true};
 ghost use Prim.Native.Nat.{ℕ, _+_, _-_, _^_, _≤_, _<_};
 ghost use lib.ListN.{length, getD};
 ghost use Rattle.apportion.specs.Shares.{atLeast, extras, added};
-ghost use Rattle.apportion.specs.Selection.{largest, Cuts, Collected, given, ties};
+ghost use Rattle.apportion.specs.Inner.Selection.{largest, Cuts, Collected, given, ties};
 use super::narrowing::Cut;
 use super::narrowing::narrow;
 use super::narrowing::smaller;

@@ -10,7 +10,8 @@ use lib.Seq.{length-take-le}
 use Rattle.sheet.specs.declared.refusal.Refusal.the-variants.{BadArchive}
 use Rattle.sheet.specs.declared.refusal.Outcome.{Outcome}
 use Rattle.sheet.specs.declared.refusal.Outcome.the-variants.{Accepted, Refused}
-use Rattle.sheet.specs.Refusals.{_⇒_, firstRefusal, PlaceBelow}
+use Rattle.sheet.specs.Refusals.{_⇒_, firstRefusal}
+use Rattle.sheet.specs.Inner.Places.{PlaceBelow}
 use Rattle.sheet.specs.Layout.{sheetOf, inBytes}
 use Rattle.sheet.specs.Check.{sameList, sheetRules}
 use Rattle.sheet.proofs.Places.{place-rule, sheet-place}

@@ -47,7 +47,7 @@ fn check_statement(body: &[u8]) -> Outcome
 {
     let n = header::header_field(body, header::UNIT_COUNT) as usize;
     let end = 48 + 32 * n;
-    let settled = settlement::settle_checked(&body[..end]);
+    let settled = settlement::settled_checked(&body[..end]);
     let outcome = settled.outcome;
     let numbers = settled.numbers;
     let Outcome::Accepted = outcome else {

@@ -11,10 +11,9 @@ use Rattle.sheet.specs.declared.refusal.Refusal.{Refusal}
 use Rattle.sheet.specs.declared.refusal.Refusal.the-variants.{BufferLength}
 use Rattle.sheet.specs.declared.refusal.Outcome.{Outcome}
 use Rattle.sheet.specs.declared.refusal.Outcome.the-variants.{Accepted, Refused}
-use Rattle.sheet.specs.Refusals.{PlaceBelow}
+use Rattle.sheet.specs.Inner.Places.{PlaceBelow}
 use Rattle.yearbook.specs.declared.totals.YearTotals.{YearTotals}
-use Rattle.yearbook.specs.LentBook.{yearOutcome, marksIn, yearSums}
-use Rattle.yearbook.specs.Code.{totalsBy}
+use Rattle.yearbook.specs.LentBook.{yearOutcome, marksIn, yearSums, totalsBy}
 use Rattle.yearbook.proofs.Places.{year-place}
 use Rattle.heatcost.specs.Year.{yearListAnswer, yearListAfter}
 

@@ -2,7 +2,7 @@
 ghost use mathlib.Core.Path.{_≡_};
 ghost use mathlib.Core.List.{_∷_};
 ghost use lib.ListN.{length};
-ghost use Rattle.sheet.specs.Refusals.{PlaceBelow};
+ghost use Rattle.sheet.specs.Inner.Places.{PlaceBelow};
 ghost use Rattle.settlement.specs.Settle.{settleAnswer, statementAfter};
 ghost use Rattle.archive.specs.Writer.{writeAnswer, recordAfter};
 ghost use Rattle.archive.specs.Reader.{readOutcome, countOf};

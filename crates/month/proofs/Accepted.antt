@@ -12,17 +12,17 @@ use lib.Dec.{ltb, leb, eqb}
 use lib.ListN.{length}
 use Rattle.apportion.specs.Shares.{sum}
 use Rattle.sheet.specs.declared.refusal.Outcome.the-variants.{Accepted}
-use Rattle.sheet.specs.Tests.{if_then_else_}
+use Rattle.sheet.specs.Tests.{if_then_else_, Each}
 use Rattle.sheet.specs.Refusals.{firstRefusal}
 use Rattle.sheet.specs.Layout.{UnitRow, Sheet, sheetOf}
 use Rattle.sheet.specs.Check.{sheetRules, checked}
-use Rattle.sheet.specs.Fits.{Each, UnitFits, Fits}
+use Rattle.sheet.specs.Inner.Fits.{UnitFits, Fits}
 use Rattle.sheet.proofs.Passed.{none-holds, holds-none, none-of-both, none-of}
 use Rattle.sheet.proofs.Fits.{fits}
 use Rattle.month.specs.Weights.{those, sumOf, isRead, readUnits, allMetered, meteredSum, hasPool, totalArea, unreadWeights, poolWeight, limited, areaWeight, surfaceWeight, readWeight, readWeights}
 use Rattle.month.specs.Weights.{readingSum, readArea, readSurface, unitsOfClass, litresOfClass1, personsOfClass2, waterWeight, commonWaterWeight}
 use Rattle.month.specs.Month.{hotWaterWh, spaceHeatWh, zeroWaterDivisor, zeroDivisor, monthRules, settleRules}
-use Rattle.month.specs.Accepted.{CheckedSheet, AcceptedSheet}
+use Rattle.month.specs.Inner.Accepted.{CheckedSheet, AcceptedSheet}
 use Rattle.month.proofs.Lists.{decided, sum-append}
 
 and-false : (a b : Bool) → (a && b) ≡ false → a ≡ true → b ≡ false

@@ -11,12 +11,13 @@ use lib.Dec.{eqb}
 use lib.ListN.{length, getD}
 use Rattle.apportion.specs.Shares.{sum}
 use Rattle.sheet.specs.Layout.{UnitRow, Sheet, waterReading}
-use Rattle.sheet.specs.Fits.{Each, UnitFits}
+use Rattle.sheet.specs.Inner.Fits.{UnitFits}
+use Rattle.sheet.specs.Tests.{Each}
 use Rattle.month.specs.Weights.{those, sumOf, isRead, meteredSum, totalArea, unreadWeight, unreadWeights, poolWeight, readingSum, readArea, readSurface, limited, areaWeight, surfaceWeight, readWeight, readWeights, unitsOfClass, litresOfClass1, personsOfClass2, waterWeight, commonWaterWeight}
 use Rattle.month.specs.Steps.{hotWater}
 use Rattle.month.specs.Month.{hotWaterWh, billCents}
-use Rattle.month.specs.Accepted.{CheckedSheet}
-use Rattle.month.specs.Bounds.{SumBounds, UnitBounds, WeightBounds}
+use Rattle.month.specs.Inner.Accepted.{CheckedSheet}
+use Rattle.month.specs.Inner.Bounds.{SumBounds, UnitBounds, WeightBounds}
 use Rattle.month.proofs.Lists.{decided, sum-append}
 use Rattle.month.proofs.Accepted.{each-those}
 

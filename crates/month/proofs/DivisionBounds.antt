@@ -5,13 +5,13 @@ use native.Mathlib.Omega.{arith}
 use lib.ListN.{length}
 use Rattle.apportion.specs.Shares.{sum}
 use Rattle.sheet.specs.Layout.{Sheet}
-use Rattle.sheet.specs.Fits.{Each}
+use Rattle.sheet.specs.Tests.{Each}
 use Rattle.month.specs.Weights.{unreadUnits, totalArea, waterWeight, commonWaterWeight}
 use Rattle.month.specs.Steps.{wholeWh, hotWater, spaceHeat, waterParts, energies}
 use Rattle.month.specs.Month.{hotWaterWh, spaceHeatWh, billCents}
-use Rattle.month.specs.Accepted.{AcceptedSheet}
+use Rattle.month.specs.Inner.Accepted.{AcceptedSheet}
 use Rattle.month.specs.Laws.{_by_, unitsHeatDivisions, heatDivisions, divisions}
-use Rattle.month.specs.Bounds.{DivisionFits}
+use Rattle.month.specs.Inner.Bounds.{DivisionFits}
 use Rattle.month.proofs.Lists.{each-append}
 use Rattle.month.proofs.Bounds.{sum-bounds, weight-bounds}
 use Rattle.month.proofs.Divisions.{by-meters, by-load, by-area, by-pool, way, split-sum, units-heat, common-heat, pool, pool-fair}

@@ -13,11 +13,11 @@ use Rattle.apportion.specs.Shares.{shares}
 use Rattle.apportion.specs.Fair.{Fair}
 use Rattle.apportion.proofs.Laws.{shares-fair}
 use Rattle.sheet.specs.Layout.{UnitRow, Sheet}
-use Rattle.sheet.specs.Fits.{Each}
+use Rattle.sheet.specs.Tests.{Each}
 use Rattle.month.specs.Weights.{unreadUnits, allMetered, unreadWeights, poolWeight, readWeights, waterWeight, commonWaterWeight}
 use Rattle.month.specs.Steps.{dividingBy, wholeWh, splitBy, inUnitOrder, unitByUnit, hotWater, spaceHeat, heatParts, poolShares, readShares, heat, commonHeat, waterParts, water, commonWater, energies}
 use Rattle.month.specs.Month.{hotWaterWh, spaceHeatWh, billCents, costs}
-use Rattle.month.specs.Accepted.{AcceptedSheet}
+use Rattle.month.specs.Inner.Accepted.{AcceptedSheet}
 use Rattle.month.specs.Laws.{_by_, unitsHeatDivisions, heatDivisions, divisions, Divisible, DoesAsShares, NoOtherDivisions}
 use Rattle.month.proofs.Lists.{decided, sum-two, each-append, each-parts}
 use Rattle.month.proofs.Accepted.{load-positive, area-positive, pool-positive, read-positive, water-positive, common-water-positive}

@@ -17,7 +17,7 @@ use Rattle.month.specs.Weights.{unreadUnits, allMetered, meteredSum}
 use Rattle.month.specs.Steps.{wholeWh, unrounded, splitBy, spaceHeat, heatParts, poolShares, readShares, heat, commonHeat, waterParts, water, commonWater, energies}
 use Rattle.month.specs.Month.{hotWaterWh, spaceHeatWh, billCents, costs, statementOf, Month, monthOf, settled, settleRules, settledSheet, unlessRefused}
 use Rattle.month.specs.Portions.{energyPortion, billPart}
-use Rattle.month.specs.Accepted.{AcceptedSheet}
+use Rattle.month.specs.Inner.Accepted.{AcceptedSheet}
 use Rattle.month.specs.Laws.{sumTo, MonthLaws, SettledLaws}
 use Rattle.month.proofs.Nearness.{NearAll, near-whole, near-zero, near-more, near-less, near-quotient, near-divided, all-more}
 use Rattle.month.proofs.Lists.{decided, near-cons, near-nil, in-order-near, by-unit-near, sumTo-cong, sum-by-fours, rows-length, row-energy, row-cost, each-below, rows-below}

@@ -8,7 +8,7 @@ use native.Mathlib.Omega.{arith}
 use lib.ListN.{length, getD, take, drop, length-append, length-drop, List·getD-append}
 use lib.Seq.{take-all, getD-drop, getD-take, length-take-le, getD-append-add, drop-drop}
 use Rattle.apportion.specs.Shares.{sum}
-use Rattle.sheet.specs.Fits.{Each}
+use Rattle.sheet.specs.Tests.{Each}
 use Rattle.sheet.specs.Layout.{UnitRow}
 use Rattle.month.specs.Fraction.{Fraction, Near, _over_}
 use Rattle.month.specs.Weights.{those, isRead}

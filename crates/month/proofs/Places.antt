@@ -6,7 +6,8 @@ use native.Mathlib.Omega.{arith}
 use lib.Dec.{leb, ltb, eqb}
 use lib.ListN.{length}
 use Rattle.apportion.specs.Shares.{sum}
-use Rattle.sheet.specs.Refusals.{Rule, firstRefusal, PlaceBelow}
+use Rattle.sheet.specs.Refusals.{Rule, firstRefusal}
+use Rattle.sheet.specs.Inner.Places.{PlaceBelow}
 use Rattle.sheet.specs.Layout.{Sheet, sheetOf}
 use Rattle.sheet.proofs.Places.{place-rule, sheet-place}
 use Rattle.month.specs.Weights.{readUnits, allMetered, meteredSum, hasPool, totalArea, unreadWeights}

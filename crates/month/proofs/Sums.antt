@@ -14,7 +14,7 @@ use Rattle.sheet.specs.Layout.{UnitRow, Sheet}
 use Rattle.month.specs.Weights.{readUnits, unreadUnits, allMetered, meteredSum, unreadWeight, unreadWeights, poolWeight, readWeight, readWeights, waterWeight, commonWaterWeight}
 use Rattle.month.specs.Steps.{wholeWh, inUnitOrder, hotWater, spaceHeat, heatParts, poolShares, readShares, heat, commonHeat, waterParts, water, commonWater, energies}
 use Rattle.month.specs.Month.{hotWaterWh, spaceHeatWh, billCents, costs}
-use Rattle.month.specs.Accepted.{AcceptedSheet}
+use Rattle.month.specs.Inner.Accepted.{AcceptedSheet}
 use Rattle.month.specs.Laws.{_by_, Divisible}
 use Rattle.month.proofs.Lists.{decided, sum-last, sum-whole, in-order-length, in-order-sum, by-unit-length, by-unit-sum}
 use Rattle.month.proofs.Divisions.{by-meters, by-load, by-area, by-pool, way, split-sum, units-heat, common-heat, above-two, load-fair, area-fair, pool-fair, read-fair, water-fair, common-water-fair}

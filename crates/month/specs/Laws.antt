@@ -8,9 +8,8 @@ use lib.Dec.{ltb, eqb}
 use lib.IntN.{ℤ, pos, negsuc, _-ℤ_}
 use lib.ListN.{length, getD}
 use Rattle.apportion.specs.Shares.{sum, shares}
-use Rattle.sheet.specs.Tests.{if_then_else_}
+use Rattle.sheet.specs.Tests.{if_then_else_, Each}
 use Rattle.sheet.specs.Layout.{Sheet, sheetOf}
-use Rattle.sheet.specs.Fits.{Each}
 use Rattle.month.specs.Fraction.{Fraction, Near}
 use Rattle.month.specs.Weights.{unreadUnits, allMetered, meteredSum, unreadWeights, poolWeight, readWeights, waterWeight, commonWaterWeight}
 use Rattle.month.specs.Steps.{dividingBy, wholeWh, unrounded, item, hotWater, spaceHeat, heatParts, poolShares, waterParts, energies}

@@ -4,7 +4,6 @@ pub mod Weights
 pub mod Steps
 pub mod Month
 pub mod Portions
-pub mod Cases
-pub mod Accepted
 pub mod Laws
-pub mod Bounds
+pub mod Inner
+pub mod Cases

@@ -14,7 +14,7 @@ use Rattle.sheet.specs.Refusals.{Rule, _⇒_, firstRefusal}
 use Rattle.sheet.specs.Layout.{sheetOf}
 use Rattle.sheet.specs.Check.{sheetRules, checked}
 use Rattle.month.specs.Month.{Month, Settled, refused, settled, statementOf, monthOf, monthRules, settleRules, settledSheet, unlessRefused}
-use Rattle.settlement.specs.Settle.{settlementOf, settleAnswer, statementAfter}
+use Rattle.settlement.specs.Settle.{settlementOf, answerOf, settleAnswer, statementAfter}
 
 -- ---- 1 to 12
 abbrev pub orElse : Outcome → Outcome → Outcome
@@ -57,3 +57,25 @@ module _ (bytes list : List ℕ) where
       pub written : length list ≡ 8 * n → (out : List ℕ) → out ≡ statementOf (sheetOf bytes) → (Accepted ≡ settleAnswer bytes list) × (out ≡ statementAfter bytes list)
       unfolding settleAnswer statementAfter monthOf
       written h out e = rw (is-settled, eq-eqb (length list) (8 * sheetOf bytes .unitCount) (omega arith)) (refl, e)
+
+-- ---- a checked sheet and a list of 8n numbers: what `settle_checked` answers and writes
+module _ (bytes list : List ℕ) (passed : checked 32 bytes ≡ Accepted) (room : length list ≡ 8 * sheetOf bytes .unitCount) where
+  by-month : settledSheet bytes ≡ unlessRefused (firstRefusal (monthRules (sheetOf bytes))) (monthOf (sheetOf bytes))
+  by-month = settled-in-order bytes ∙ rw passed
+
+  fitting : (o : Outcome) → answerOf (unlessRefused o (monthOf (sheetOf bytes))) (length list) ≡ o
+  unfolding monthOf
+  fitting Accepted = rw (eq-eqb (length list) (8 * sheetOf bytes .unitCount) room)
+  fitting (Refused r) = refl
+
+  pub answer-is : settleAnswer bytes list ≡ firstRefusal (monthRules (sheetOf bytes))
+  unfolding settleAnswer
+  answer-is = rw by-month (fitting (firstRefusal (monthRules (sheetOf bytes))))
+
+  module _ (ok : settleAnswer bytes list ≡ Accepted) where
+    pub settles : settledSheet bytes ≡ settled (monthOf (sheetOf bytes))
+    settles = by-month ∙ rw (sym answer-is ∙ ok)
+
+    pub statement-is : statementAfter bytes list ≡ statementOf (sheetOf bytes)
+    unfolding statementAfter monthOf
+    statement-is = rw (settles, eq-eqb (length list) (8 * sheetOf bytes .unitCount) room)

@@ -11,13 +11,13 @@ use Rattle.apportion.proofs.Laws.{shares-fair}
 use Rattle.sheet.specs.Layout.{UnitRow, Sheet, sheetOf}
 use Rattle.month.specs.Weights.{those, totalArea, unreadWeights, readWeights}
 use Rattle.month.specs.Steps.{wholeWh, waterParts}
-use Rattle.month.specs.Accepted.{CheckedSheet}
+use Rattle.month.specs.Inner.Accepted.{CheckedSheet}
 use Rattle.month.proofs.Accepted.{load-positive, area-positive}
 use Rattle.month.proofs.Bounds.{sum-bounds, weight-bounds}
 use Rattle.month.proofs.Divisions.{units-heat, common-heat, water-divisible, common-water-divisible}
 use Rattle.month.proofs.DivisionBounds.{units-heat-le, common-heat-le, units-water-le, common-water-le}
-use Rattle.settlement.specs.By.{takesPart, weightOf, weightsBy}
-use Rattle.settlement.specs.Ready.{Accepts}
+use Rattle.settlement.specs.Inner.By.{takesPart, weightOf, weightsBy}
+use Rattle.settlement.specs.Inner.Ready.{Accepts}
 use Rattle.settlement.specs.declared.gather.By.{By}
 use Rattle.settlement.specs.declared.gather.By.the-variants.{Load, Area, Unread, Read, Water, Persons}
 use Rattle.settlement.specs.declared.totals.Totals.{Totals}

@@ -10,7 +10,7 @@ use Rattle.apportion.specs.Shares.{shares}
 use Rattle.sheet.specs.Layout.{Sheet}
 use Rattle.month.specs.Steps.{wholeWh, unitByUnit, energies}
 use Rattle.month.specs.Month.{fourAndFour, billCents, costs, statementOf}
-use Rattle.settlement.specs.Ready.{Energies}
+use Rattle.settlement.specs.Inner.Ready.{Energies}
 
 -- ---- four numbers written one after the other, and read
 pub four-written : (out : List ℕ) (at a b c d : ℕ) → at + 4 ≤ length out

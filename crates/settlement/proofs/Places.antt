@@ -9,7 +9,8 @@ use Rattle.sheet.specs.declared.refusal.Refusal.the-variants.{BufferLength}
 use Rattle.sheet.specs.declared.refusal.Outcome.{Outcome}
 use Rattle.sheet.specs.declared.refusal.Outcome.the-variants.{Accepted, Refused}
 use Rattle.sheet.specs.Tests.{if_then_else_}
-use Rattle.sheet.specs.Refusals.{firstRefusal, PlaceBelow}
+use Rattle.sheet.specs.Refusals.{firstRefusal}
+use Rattle.sheet.specs.Inner.Places.{PlaceBelow}
 use Rattle.sheet.specs.Layout.{sheetOf}
 use Rattle.month.specs.Month.{Month, monthOf, settleRules, unlessRefused, settledSheet}
 use Rattle.month.proofs.Places.{settle-place}

@@ -17,8 +17,8 @@ use Rattle.month.proofs.Lists.{decided}
 use Rattle.month.proofs.Accepted.{read-positive}
 use Rattle.month.proofs.Divisions.{pool}
 use Rattle.month.proofs.DivisionBounds.{pool-le}
-use Rattle.settlement.specs.By.{weightsBy}
-use Rattle.settlement.specs.Ready.{Accepts}
+use Rattle.settlement.specs.Inner.By.{weightsBy}
+use Rattle.settlement.specs.Inner.Ready.{Accepts}
 use Rattle.settlement.specs.declared.totals.Totals.{Totals}
 use Rattle.settlement.specs.declared.gather.By.the-variants.{Unread, Read}
 use Rattle.settlement.proofs.Dividing.{counted, Divides}

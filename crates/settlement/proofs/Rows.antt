@@ -13,13 +13,13 @@ use Rattle.apportion.specs.Shares.{bit}
 use lib.Dec.{eqb}
 use Rattle.sheet.specs.Tests.{if_then_else_}
 use Rattle.sheet.specs.Layout.{UnitRow, Sheet, unitRow, sheetOf}
-use Rattle.sheet.specs.Fields.{unitOf}
-use Rattle.sheet.specs.Fits.{UnitFits}
+use Rattle.sheet.specs.Inner.Fields.{unitOf}
+use Rattle.sheet.specs.Inner.Fits.{UnitFits}
 use Rattle.sheet.proofs.Fits.{each-at}
 use Rattle.sheet.proofs.Units.{units-next}
 use Rattle.month.specs.Weights.{those, commonWaterWeight}
 use Rattle.month.proofs.Lists.{decided}
-use Rattle.settlement.specs.Ready.{RowReady}
+use Rattle.settlement.specs.Inner.Ready.{RowReady}
 
 -- ---- a row's fields are in range
 pub unit-fits : {bytes : List ℕ} {i : ℕ} → RowReady bytes i → UnitFits (sheetOf bytes) (unitOf (sheetOf bytes) i)

@@ -8,12 +8,13 @@ use native.Mathlib.Omega.{arith}
 use lib.Dec.{eqb}
 use lib.ListN.{length}
 use Rattle.sheet.specs.Layout.{UnitRow, Sheet}
-use Rattle.sheet.specs.Fits.{Each, UnitFits}
+use Rattle.sheet.specs.Inner.Fits.{UnitFits}
+use Rattle.sheet.specs.Tests.{Each}
 use Rattle.month.specs.Weights.{those, sumOf, isRead, unreadWeight, totalArea, unreadWeights, readArea, readSurface, readingSum, unitsOfClass, litresOfClass1, personsOfClass2}
 use Rattle.month.proofs.Lists.{decided, sum-append}
 use Rattle.month.proofs.Accepted.{sum-those}
 use Rattle.month.proofs.Bounds.{sum-at-most, three-le}
-use Rattle.settlement.specs.Totals.{onlyIf, ofUnit, plusTotals, TotalsOf, Within}
+use Rattle.settlement.specs.Inner.Totals.{onlyIf, ofUnit, plusTotals, TotalsOf, Within}
 use Rattle.settlement.specs.declared.totals.Totals.{Totals}
 use Rattle.settlement.proofs.Rows.{map-append}
 

@@ -16,8 +16,8 @@ use Rattle.month.specs.Weights.{those, sumOf, isRead}
 use Rattle.month.specs.Month.{zeroWaterDivisor, zeroDivisor, hotWaterWh}
 use Rattle.month.proofs.Lists.{decided, sum-append}
 use Rattle.month.proofs.Bounds.{those-fewer}
-use Rattle.settlement.specs.Amount.{plusSum, pastSum}
-use Rattle.settlement.specs.Totals.{TotalsOf}
+use Rattle.settlement.specs.Inner.Amount.{plusSum, pastSum}
+use Rattle.settlement.specs.Inner.Totals.{TotalsOf}
 use Rattle.settlement.specs.declared.totals.Totals.{Totals}
 
 -- ---- 9

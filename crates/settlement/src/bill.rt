@@ -4,17 +4,17 @@ ghost use mathlib.Core.List.{[], _∷_, _++_};
 ghost use Prim.Native.Nat.{_+_, _*_, _≤_, _<_};
 ghost use lib.ListN.{length, take};
 ghost use Rattle.sheet.specs.Layout.{sheetOf};
-ghost use Rattle.sheet.specs.Fits.{Fits};
+ghost use Rattle.sheet.specs.Inner.Fits.{Fits};
 ghost use Rattle.month.specs.Steps.{wholeWh, unitByUnit};
 ghost use Rattle.month.specs.Month.{billCents, fourAndFour, statementOf};
-ghost use Rattle.settlement.specs.Ready.{Accepts, Energies};
+ghost use Rattle.settlement.specs.Inner.Ready.{Accepts, Energies};
 use crate::totals::Totals;
 use crate::weights::head;
 use crate::weights::wide;
 use sheet::header;
 
 // M × price / 1,000,000 in cents, half up.
-pub(crate) fn bill(s: &[u8]) -> u64
+pub fn bill_cents(s: &[u8]) -> u64
     requires { ⌜ Fits 32 (now s) ⌝ }
     ensures { λ r. ⌜ r ≡ billCents (sheetOf (now (s .entry))) ⌝ }
 {
@@ -98,7 +98,7 @@ fn numbers_in(
     ensures { λ r. ⌜ now (out .exit) ≡ statementOf (sheetOf (now (s .entry))) ⌝ }
 {
     energy_weights(n, a, b, c, d, weights);
-    apportion::apportion(bill(s), weights, remainders, cents);
+    apportion::apportion(bill_cents(s), weights, remainders, cents);
     statement_rows(n, a, b, c, d, cents, out);
 }
 

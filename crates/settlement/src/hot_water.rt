@@ -3,7 +3,7 @@ ghost use mathlib.Core.Path.{_≡_};
 ghost use Prim.Native.Nat.{_+_, _≤_};
 ghost use Rattle.apportion.specs.Shares.{sum};
 ghost use Rattle.sheet.specs.Layout.{sheetOf};
-ghost use Rattle.sheet.specs.Fits.{Fits};
+ghost use Rattle.sheet.specs.Inner.Fits.{Fits};
 ghost use Rattle.month.specs.Month.{hotWaterWh};
 use crate::weights::head;
 use sheet::header;

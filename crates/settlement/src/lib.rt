@@ -10,7 +10,9 @@ mod totals;
 mod water;
 mod weights;
 
+pub use bill::bill_cents;
 pub use settling::Settlement;
 pub use settling::settle;
 pub use settling::settle_checked;
 pub use settling::settle_sheet;
+pub use settling::settled_checked;

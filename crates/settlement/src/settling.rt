@@ -7,7 +7,7 @@ ghost use Rattle.sheet.specs.declared.refusal.Outcome.the-variants.{Accepted};
 ghost use Rattle.sheet.specs.Layout.{sheetOf};
 ghost use Rattle.sheet.specs.Check.{checked};
 ghost use Rattle.month.specs.Month.{hotWaterWh, statementOf, monthOf, refused, settled, settledSheet};
-ghost use Rattle.settlement.specs.Ready.{Accepts};
+ghost use Rattle.settlement.specs.Inner.Ready.{Accepts};
 ghost use Rattle.settlement.specs.Settle.{settlementOf, settleAnswer, statementAfter};
 use crate::bill;
 use crate::heat;
@@ -79,13 +79,13 @@ fn accepted(s: &[u8], n: usize, t: Totals, h: u64) -> Settlement
         month: header::header_field(s, header::MONTH),
         count: header::header_field(s, header::UNIT_COUNT),
         meter: header::header_field(s, header::SHARED_METER),
-        bill: bill::bill(s) as u32,
+        bill: bill::bill_cents(s) as u32,
         numbers: statement_of(s, n, t, h),
     }
 }
 
 // A sheet that passes 1 to 7.
-pub fn settle_checked(s: &[u8]) -> Settlement
+pub fn settled_checked(s: &[u8]) -> Settlement
     requires { ⌜ checked 32 (now s) ≡ Accepted ⌝ }
     ensures { λ r. ⌜ r ≡ settlementOf (settledSheet (now (s .entry))) ⌝ }
 {
@@ -104,12 +104,12 @@ pub fn settle_sheet(s: &[u8]) -> Settlement
 {
     match sheet::check_sheet(s) {
         Outcome::Refused(r) => refused(r),
-        Outcome::Accepted => settle_checked(s),
+        Outcome::Accepted => settled_checked(s),
     }
 }
 
 // A sheet that passes 1 to 7: 8 to 12, then 13, then the statement.
-fn settle_into(s: &[u8], statement: &mut [u32]) -> Outcome
+pub fn settle_checked(s: &[u8], statement: &mut [u32]) -> Outcome
     requires { ⌜ checked 32 (now s) ≡ Accepted ⌝ }
     ensures { λ r. ⌜ (r ≡ settleAnswer (now (s .entry)) (now (statement .entry))) × (now (statement .exit) ≡ statementAfter (now (s .entry)) (now (statement .entry))) ⌝ }
 {
@@ -135,5 +135,5 @@ pub fn settle(sheet: &[u8], statement: &mut [u32]) -> Outcome
     let Outcome::Accepted = outcome else {
         return outcome;
     };
-    settle_into(sheet, statement)
+    settle_checked(sheet, statement)
 }

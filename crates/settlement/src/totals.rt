@@ -1,10 +1,10 @@
 // The sums over the units that the steps need, in one pass.
 ghost use mathlib.Core.Path.{_≡_};
 ghost use Rattle.sheet.specs.Layout.{sheetOf};
-ghost use Rattle.sheet.specs.Fields.{unitOf};
-ghost use Rattle.sheet.specs.Fits.{Fits};
-ghost use Rattle.settlement.specs.Totals.{onlyIf, ofUnit, plusTotals, Within};
-ghost use Rattle.settlement.specs.Ready.{RowReady, Ready};
+ghost use Rattle.sheet.specs.Inner.Fields.{unitOf};
+ghost use Rattle.sheet.specs.Inner.Fits.{Fits};
+ghost use Rattle.settlement.specs.Inner.Totals.{onlyIf, ofUnit, plusTotals, Within};
+ghost use Rattle.settlement.specs.Inner.Ready.{RowReady, Ready};
 use crate::weights::common_water_weight;
 use crate::weights::field;
 use crate::weights::unread_weight;

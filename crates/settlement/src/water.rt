@@ -4,7 +4,7 @@ ghost use lib.ListN.{length, take};
 ghost use Rattle.sheet.specs.Layout.{sheetOf};
 ghost use Rattle.month.specs.Steps.{wholeWh, waterParts, water, commonWater};
 ghost use Rattle.month.specs.Month.{hotWaterWh};
-ghost use Rattle.settlement.specs.Ready.{Accepts};
+ghost use Rattle.settlement.specs.Inner.Ready.{Accepts};
 use crate::divide::Parts;
 use crate::divide::divide_by;
 use crate::divide::split;

@@ -8,7 +8,7 @@ use borrow.Author.Tests.{le-leb, lt-leb}
 use lib.ListN.{length, take}
 use Rattle.sheet.specs.Tests.{if_then_else_}
 use Rattle.sheet.specs.Layout.{sheetOf, byte, le16, le32}
-use Rattle.sheet.specs.Fields.{unitRowAt, rowField, headerField, fieldAt}
+use Rattle.sheet.specs.Inner.Fields.{unitRowAt, rowField, headerField, fieldAt}
 
 -- ---- a fact of each of the n numbers from a on
 abbrev Span : (ℕ → Type 0) → ℕ → ℕ → Type 0

@@ -10,10 +10,10 @@ use lib.ListN.{length, getD, take}
 use borrow.Author.Tests.{leb-true, leb-false, eqb-true, ne-eqb, not-false}
 use Rattle.sheet.specs.declared.ranges.Range.{Range}
 use Rattle.sheet.specs.declared.refusal.Outcome.the-variants.{Accepted}
-use Rattle.sheet.specs.Tests.{if_then_else_, all}
+use Rattle.sheet.specs.Tests.{if_then_else_, all, Each}
 use Rattle.sheet.specs.Layout.{UnitRow, Sheet, sheetOf, waterReading}
 use Rattle.sheet.specs.Check.{entry, _to_, _within_, headerTests, rowTests, rowRules, sheetRules, checked, basePercentRanges, commonHeatRanges, unmeteredFactorRanges, commonWaterRanges, lossFactorRanges, firstWaterReadingRanges, otherWaterReadingRanges, statusRanges, waterClassRanges, readingRanges, litresRanges, personsRanges}
-use Rattle.sheet.specs.Fits.{InRange, Each, Increasing, idOf, UnitFits, HeaderFits, Fits}
+use Rattle.sheet.specs.Inner.Fits.{InRange, Increasing, idOf, UnitFits, HeaderFits, Fits}
 use Rattle.sheet.proofs.Passed.{NoneHolds, none-holds, and-true, AllTrue, all-of, in-range}
 use Rattle.sheet.proofs.Units.{units-count}
 

@@ -11,7 +11,7 @@ use Rattle.sheet.specs.declared.refusal.Outcome.the-variants.{Accepted}
 use Rattle.sheet.specs.Tests.{all, any}
 use Rattle.sheet.specs.Refusals.{Rule, _⇒_, firstRefusal}
 use Rattle.sheet.specs.Check.{_within_}
-use Rattle.sheet.specs.Fits.{InRange}
+use Rattle.sheet.specs.Inner.Fits.{InRange}
 
 -- ---- no rule's condition holds
 abbrev pub NoneHolds : List Rule → Type 0

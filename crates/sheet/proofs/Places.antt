@@ -9,7 +9,8 @@ use borrow.Author.Tests.{not-false}
 use lib.Dec.{ltb, eqb}
 use lib.ListN.{length}
 use Rattle.sheet.specs.Tests.{all}
-use Rattle.sheet.specs.Refusals.{Rule, _⇒_, firstRefusal, placeOf, PlaceBelow}
+use Rattle.sheet.specs.Refusals.{Rule, _⇒_, firstRefusal, placeOf}
+use Rattle.sheet.specs.Inner.Places.{PlaceBelow}
 use Rattle.sheet.specs.Layout.{UnitRow, Sheet, sheetOf}
 use Rattle.sheet.specs.Check.{headerTests, rowTests, notAbove, rowRules, sheetRules, sameList, sheetMagic}
 use Rattle.sheet.proofs.Passed.{all-of, in-range}

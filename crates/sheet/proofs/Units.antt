@@ -7,7 +7,7 @@ use native.Mathlib.Numerals.{add-one}
 use lib.ListN.{length, getD, take, drop, length-map, length-drop, List·getD-append, List·getD-map}
 use lib.Seq.{getD-take, getD-drop, drop-drop, drop-cons, take-suc, take-append-le, drop-append-le}
 use Rattle.sheet.specs.Layout.{unitRow, rows, sheetOf, byte, le16, le32}
-use Rattle.sheet.specs.Fields.{unitRowAt, unitOf}
+use Rattle.sheet.specs.Inner.Fields.{unitRowAt, unitOf}
 
 -- ---- the 32 bytes from `at` on, cut out
 module _ (bytes : List ℕ) (at : ℕ) where

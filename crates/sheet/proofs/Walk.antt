@@ -15,9 +15,9 @@ use Rattle.sheet.specs.declared.refusal.Refusal.the-variants.{RowField, 
 use Rattle.sheet.specs.Tests.{all}
 use Rattle.sheet.specs.Refusals.{firstRefusal}
 use Rattle.sheet.specs.Layout.{UnitRow, Sheet, sheetOf}
-use Rattle.sheet.specs.Fields.{unitOf, idBefore, rowFields, rowField, headerFields, headerField}
+use Rattle.sheet.specs.Inner.Fields.{unitOf, idBefore, rowFields, rowField, headerFields, headerField}
 use Rattle.sheet.specs.Check.{_to_, _within_, entry, statusRanges, waterClassRanges, readingRanges, headerTests, rowTests, rowRules, notAbove}
-use Rattle.sheet.specs.FieldRanges.{headerRanges, rowRanges, rangeTests}
+use Rattle.sheet.specs.Inner.FieldRanges.{headerRanges, rowRanges, rangeTests}
 use Rattle.sheet.proofs.Units.{units-from, units-count}
 
 -- ---- tests from k on: test k passes, fails, or there is none

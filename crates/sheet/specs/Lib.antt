@@ -2,10 +2,7 @@
 pub mod Tests
 pub mod Refusals
 pub mod Layout
-pub mod Fields
 pub mod Check
-pub mod FieldRanges
-pub mod Fits
 pub mod WattHours
-pub mod Samples
+pub mod Inner
 pub mod Cases

@@ -1,7 +1,7 @@
 -- Refusals: their numbers, their places and their order (document 01, "Refused sheets and calls").
 use mathlib.Core.Bool.{Bool, true, false}
 use mathlib.Core.List.{List, [], _∷_}
-use Prim.Native.Nat.{ℕ, _<_}
+use Prim.Native.Nat.{ℕ}
 use Rattle.sheet.specs.declared.refusal.Refusal.{Refusal}
 use Rattle.sheet.specs.declared.refusal.Refusal.the-variants.{TooShort, BadMagic, UnsupportedVersion, HeaderField, WrongLength, RowField, IdOrder}
 use Rattle.sheet.specs.declared.refusal.Refusal.the-variants.{HotWaterExceedsMeter, ZeroDivisor, NoReadings, MetersExceedHeat, UnmeteredExceedsHeat}
@@ -61,8 +61,3 @@ unfoldable pub firstRefusal : List Rule → Outcome
 firstRefusal [] = Accepted
 firstRefusal ((true ⇒ r) ∷ rules) = Refused r
 firstRefusal ((false ⇒ r) ∷ rules) = firstRefusal rules
-
--- a refusal's place is below k
-abbrev pub PlaceBelow : ℕ → Outcome → Type 0
-PlaceBelow k Accepted = Unit {0}
-PlaceBelow k (Refused r) = placeOf r < k

@@ -5,7 +5,7 @@ ghost use Prim.Native.Nat.{_+_, _*_, _≤_, _<_};
 ghost use lib.ListN.{length, take};
 ghost use Rattle.sheet.specs.Refusals.{firstRefusal};
 ghost use Rattle.sheet.specs.Layout.{sheetOf};
-ghost use Rattle.sheet.specs.Fields.{unitOf, idBefore};
+ghost use Rattle.sheet.specs.Inner.Fields.{unitOf, idBefore};
 ghost use Rattle.sheet.specs.Check.{checked, rowRules, notAbove, sameList, sheetMagic};
 use crate::bytes;
 use crate::header;

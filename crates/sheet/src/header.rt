@@ -4,7 +4,7 @@ ghost use Prim.Native.Nat.{_≤_, _<_};
 ghost use lib.ListN.{length};
 ghost use Rattle.sheet.specs.Tests.{all};
 ghost use Rattle.sheet.specs.Layout.{sheetOf};
-ghost use Rattle.sheet.specs.Fields.{headerField};
+ghost use Rattle.sheet.specs.Inner.Fields.{headerField};
 ghost use Rattle.sheet.specs.Check.{headerTests};
 use crate::bytes;
 use crate::ranges;

@@ -3,7 +3,7 @@ ghost use mathlib.Core.Path.{_≡_};
 ghost use lib.Dec.{eqb};
 ghost use Rattle.sheet.specs.Check.{_within_, _to_, entry, statusRanges, waterClassRanges, readingRanges};
 ghost use Rattle.sheet.specs.Tests.{if_then_else_};
-ghost use Rattle.sheet.specs.FieldRanges.{headerRanges, rowRanges};
+ghost use Rattle.sheet.specs.Inner.FieldRanges.{headerRanges, rowRanges};
 use crate::tables;
 
 pub struct Range {

@@ -3,7 +3,7 @@ ghost use mathlib.Core.Path.{_≡_};
 ghost use Prim.Native.Nat.{_+_, _*_, _≤_, _<_};
 ghost use lib.ListN.{length};
 ghost use Rattle.sheet.specs.Layout.{sheetOf};
-ghost use Rattle.sheet.specs.Fields.{rowField, unitOf, fieldAt};
+ghost use Rattle.sheet.specs.Inner.Fields.{rowField, unitOf, fieldAt};
 use crate::bytes;
 
 pub const ID: usize = 0;

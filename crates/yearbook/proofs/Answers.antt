@@ -15,9 +15,8 @@ use Rattle.sheet.specs.Check.{checked}
 use Rattle.month.specs.Month.{Month, Settled, settleRules, settledSheet}
 use Rattle.month.proofs.Laws.{settled-month}
 use Rattle.yearbook.specs.Calls.{post, replace, withdraw, year, accepted, refused, totals}
-use Rattle.yearbook.specs.LentBook.{unitCountIn, marked, badBook, otherBuilding, sheetCallRules, putSheet, clearMonth, freshBook}
-use Rattle.yearbook.specs.LentBook.{openAnswer, bookOpened, postAnswer, bookPosted, replaceAnswer, bookReplaced, withdrawAnswer, bookWithdrawn, yearOutcome, marksIn, yearSums, yearAnswer, lentReply, lentAfter, Opens, Answered}
-use Rattle.yearbook.specs.Code.{bringCall, wrongMonth, refusedTotals, totalsBy, Tells}
+use Rattle.yearbook.specs.LentBook.{unitCountIn, marked, badBook, otherBuilding, sheetCallRules, putSheet, clearMonth, freshBook, openAnswer, bookOpened, postAnswer, bookPosted, replaceAnswer, bookReplaced, withdrawAnswer, bookWithdrawn, yearOutcome, marksIn, yearSums, yearAnswer, lentReply, lentAfter, Opens, Answered, refusedTotals, totalsBy, Tells}
+use Rattle.yearbook.specs.Inner.Code.{bringCall, wrongMonth}
 use Rattle.yearbook.proofs.Settled.{sheet-refused}
 
 -- ---- rules one after the other

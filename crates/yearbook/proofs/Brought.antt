@@ -16,7 +16,7 @@ use Rattle.month.proofs.Laws.{settled-month}
 use Rattle.settlement.specs.declared.settling.Settlement.{Settlement}
 use Rattle.settlement.specs.Settle.{settlementOf}
 use Rattle.yearbook.specs.LentBook.{badBook, putMonth, putSheet}
-use Rattle.yearbook.specs.Code.{wrongMark, wrongMonth, HoldsRows, Brings}
+use Rattle.yearbook.specs.Inner.Code.{wrongMark, wrongMonth, HoldsRows, Brings}
 use Rattle.yearbook.proofs.Sound.{book-sound}
 use Rattle.yearbook.proofs.Writes.{put-settled}
 use Rattle.yearbook.proofs.Settled.{own-month, sheet-accepted, block-length}

@@ -9,7 +9,7 @@ use lib.Dec.{eqb}
 use borrow.Author.Tests.{eq-eqb, ne-eqb}
 use lib.ListN.{length, getD, take, drop, List·getD-map}
 use Rattle.sheet.specs.Layout.{Sheet, unitRow}
-use Rattle.sheet.specs.Fields.{unitOf}
+use Rattle.sheet.specs.Inner.Fields.{unitOf}
 use Rattle.sheet.specs.Check.{sameList}
 use Rattle.yearbook.specs.LentBook.{unitCountIn, otherBuilding}
 

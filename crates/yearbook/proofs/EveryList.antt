@@ -6,7 +6,7 @@ use native.Mathlib.Omega.{arith}
 use lib.ListN.{length, getD}
 use Rattle.apportion.specs.Shares.{sum}
 use Rattle.sheet.specs.Layout.{sheetOf}
-use Rattle.sheet.specs.Fits.{Each}
+use Rattle.sheet.specs.Tests.{Each}
 use Rattle.month.specs.Fraction.{Near}
 use Rattle.month.specs.Month.{billCents, monthOf}
 use Rattle.month.specs.Portions.{energyPortion, billPart}

@@ -8,7 +8,8 @@ use lib.Dec.{ltb}
 use Rattle.sheet.specs.declared.refusal.Refusal.the-variants.{BadYearBook, OtherBuilding, MonthState, NoSuchUnit}
 use Rattle.sheet.specs.declared.refusal.Outcome.{Outcome}
 use Rattle.sheet.specs.declared.refusal.Outcome.the-variants.{Accepted, Refused}
-use Rattle.sheet.specs.Refusals.{Rule, _⇒_, firstRefusal, PlaceBelow}
+use Rattle.sheet.specs.Refusals.{Rule, _⇒_, firstRefusal}
+use Rattle.sheet.specs.Inner.Places.{PlaceBelow}
 use Rattle.sheet.specs.Layout.{sheetOf}
 use Rattle.sheet.specs.Check.{sheetRules}
 use Rattle.sheet.proofs.Places.{place-rule, sheet-place}

@@ -10,7 +10,7 @@ use Rattle.sheet.specs.declared.refusal.Outcome.the-variants.{Accepted, Refused
 use Rattle.sheet.specs.Refusals.{firstRefusal}
 use Rattle.sheet.specs.Layout.{sheetOf}
 use Rattle.month.specs.Month.{Month, Settled, monthOf, statementOf, settleRules, settledSheet, unlessRefused}
-use Rattle.month.specs.Accepted.{AcceptedSheet}
+use Rattle.month.specs.Inner.Accepted.{AcceptedSheet}
 use Rattle.month.proofs.Accepted.{accepted}
 use Rattle.month.proofs.Laws.{settled-month, settled-laws}
 use Rattle.yearbook.specs.LentBook.{padded}

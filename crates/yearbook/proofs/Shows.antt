@@ -15,7 +15,7 @@ use Rattle.sheet.proofs.Fits.{fits}
 use Rattle.month.specs.Month.{Settled, monthOf, settledSheet, statementOf, billCents}
 use Rattle.yearbook.specs.PlainBook.{PlainBook, openedPlain, nowHolds}
 use Rattle.yearbook.specs.LentBook.{unitCountIn, markAt, meterAt, billAt, blockAt, idsIn, padded, putMonth, putSheet, clearMonth, freshBook}
-use Rattle.yearbook.specs.Sound.{Sound}
+use Rattle.yearbook.specs.Inner.Sound.{Sound}
 use Rattle.yearbook.proofs.Sums.{orZero, IfHeld}
 use Rattle.yearbook.proofs.Stores.{zero-at, zeros-after}
 use Rattle.yearbook.proofs.Settled.{block-length}

@@ -10,7 +10,7 @@ use lib.ListN.{length, getD, take, drop, length-take}
 use lib.Seq.{getD-take, getD-drop}
 use Rattle.sheet.specs.Tests.{any}
 use Rattle.yearbook.specs.LentBook.{unitCountIn, markAt, badBook}
-use Rattle.yearbook.specs.Sound.{Sound}
+use Rattle.yearbook.specs.Inner.Sound.{Sound}
 
 pub neither : (s t : Bool) → (s || t) ≡ false → (s ≡ false) × (t ≡ false)
 neither false t e = (refl, e)

@@ -26,7 +26,7 @@ use Rattle.yearbook.proofs.Sums.{orZero, sum-held, sum-ones, eight-cong
 use Rattle.yearbook.proofs.Sound.{neither, sound-book}
 use Rattle.yearbook.proofs.Settled.{own-month, sheet-accepted}
 use Rattle.yearbook.proofs.Building.{eqb-sym, same-sym}
-use Rattle.yearbook.specs.Code.{bringCall, wrongMonth}
+use Rattle.yearbook.specs.Inner.Code.{bringCall, wrongMonth}
 use Rattle.yearbook.proofs.Answers.{bring-refused, bring-16, bring-17, bring-accepted, withdraw-low, withdraw-high, withdraw-17, withdraw-accepted, year-18, year-totals}
 use Rattle.yearbook.proofs.Shows.{At, Shows, shows-sound, shows-ids, shows-cleared, shows-sheet}
 

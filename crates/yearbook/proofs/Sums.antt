@@ -7,7 +7,7 @@ use native.Mathlib.Omega.{arith}
 use lib.ListN.{length, getD}
 use lib.Seq.{ext-getD}
 use Rattle.apportion.specs.Shares.{sum}
-use Rattle.sheet.specs.Fits.{Each}
+use Rattle.sheet.specs.Tests.{Each}
 use Rattle.month.specs.Fraction.{Fraction, Near, sumᶠ}
 use Rattle.month.specs.Laws.{sumTo}
 use Rattle.month.proofs.Nearness.{near-add, near-zero}

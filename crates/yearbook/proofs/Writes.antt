@@ -14,8 +14,7 @@ use Rattle.sheet.proofs.Units.{units-count}
 use Rattle.month.specs.Month.{Month, Settled, monthOf, settledSheet}
 use Rattle.month.proofs.Laws.{settled-month}
 use Rattle.yearbook.specs.Calls.{Call, post, replace, withdraw, year}
-use Rattle.yearbook.specs.LentBook.{unitCountIn, markAt, meterAt, billAt, blockAt, padded, putMonth, putSheet, clearMonth, zeroBook, freshBook}
-use Rattle.yearbook.specs.LentBook.{afterwards, postAnswer, bookPosted, replaceAnswer, bookReplaced, withdrawAnswer, bookWithdrawn, lentAfter}
+use Rattle.yearbook.specs.LentBook.{unitCountIn, markAt, meterAt, billAt, blockAt, padded, putMonth, putSheet, clearMonth, zeroBook, freshBook, afterwards, postAnswer, bookPosted, replaceAnswer, bookReplaced, withdrawAnswer, bookWithdrawn, lentAfter}
 use Rattle.yearbook.proofs.Stores.{getD-sets-below, getD-sets-above, getD-sets-in, zero-at}
 
 -- ---- a month: its mark, M, bill and block

@@ -7,6 +7,7 @@ use Prim.Native.Nat.{ℕ, _+_, _*_, _-_}
 use lib.Dec.{ltb, eqb}
 use lib.ListN.{length, getD, take, drop, set, replicate}
 use lib.Seq.{sets}
+use Rattle.sheet.specs.declared.refusal.Refusal.{Refusal}
 use Rattle.sheet.specs.declared.refusal.Refusal.the-variants.{BadYearBook, OtherBuilding, MonthState, NoSuchUnit}
 use Rattle.sheet.specs.declared.refusal.Outcome.{Outcome}
 use Rattle.sheet.specs.declared.refusal.Outcome.the-variants.{Accepted, Refused}
@@ -16,6 +17,7 @@ use Rattle.sheet.specs.Layout.{Sheet, sheetOf}
 use Rattle.sheet.specs.Check.{sameList, sheetRules}
 use Rattle.month.specs.Month.{billCents, statementOf, settleRules}
 use Rattle.month.specs.Laws.{sumTo}
+use Rattle.yearbook.specs.declared.totals.YearTotals.{YearTotals}
 use Rattle.yearbook.specs.Calls.{Call, post, replace, withdraw, year, Reply, refused, totals, eight, replyOf}
 
 -- ---- the layout; a month's place i is its number less 1
@@ -171,3 +173,18 @@ pub record Opens (before sheet : List ℕ) (o : Outcome) (b : List ℕ) : Type 0
 pub record Answered (b : List ℕ) (c : Call) (r : Reply) (b′ : List ℕ) : Type 0 where
   pub reply : r ≡ lentReply b c
   pub after : b′ ≡ lentAfter b c
+
+-- the year call's reply by value, k and all sums 0 where it is refused
+abbrev pub toReply : YearTotals → Reply
+toReply t = yearReply (t .outcome) (t .k) (t .sums)
+
+abbrev pub refusedTotals : Refusal → YearTotals
+refusedTotals r = record { outcome = Refused r; k = 0; sums = replicate 8 0 }
+
+abbrev pub totalsBy : Outcome → (k : ℕ) → (sums : List ℕ) → YearTotals
+totalsBy Accepted k sums = record { outcome = Accepted; k = k; sums = sums }
+totalsBy (Refused r) k sums = refusedTotals r
+
+pub record Tells (b : List ℕ) (place : ℕ) (t : YearTotals) : Type 0 where
+  pub answered : Answered b (year place) (toReply t) b
+  pub whole : t ≡ totalsBy (yearOutcome b place) (marksIn b) (yearSums b place)

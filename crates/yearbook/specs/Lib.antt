@@ -1,8 +1,7 @@
 -- The year book (document 01, "Year book"): the calls, the plain book, the book in a lent list, and what is promised over every list of calls.
 pub mod Calls
 pub mod PlainBook
-pub mod Runs
 pub mod LentBook
-pub mod Sound
 pub mod Theorem
-pub mod Code
+pub mod Inner
+pub mod Cases

@@ -8,7 +8,7 @@ use Rattle.apportion.specs.Shares.{sum}
 use Rattle.sheet.specs.declared.refusal.Outcome.{Outcome}
 use Rattle.sheet.specs.declared.refusal.Outcome.the-variants.{Accepted}
 use Rattle.sheet.specs.Layout.{sheetOf}
-use Rattle.sheet.specs.Fits.{Each}
+use Rattle.sheet.specs.Tests.{Each}
 use Rattle.sheet.specs.Check.{checked}
 use Rattle.month.specs.Fraction.{Near, sumᶠ}
 use Rattle.month.specs.Month.{billCents, monthOf, Settled, settledSheet}

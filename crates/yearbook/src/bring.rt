@@ -8,7 +8,7 @@ ghost use Rattle.sheet.specs.Layout.{sheetOf};
 ghost use Rattle.sheet.specs.Check.{sameList};
 ghost use Rattle.yearbook.specs.Calls.{replyOf};
 ghost use Rattle.yearbook.specs.LentBook.{otherBuilding, Answered};
-ghost use Rattle.yearbook.specs.Code.{bringCall, wrongMark, HoldsRows, Brings};
+ghost use Rattle.yearbook.specs.Inner.Code.{bringCall, wrongMark, HoldsRows, Brings};
 use crate::lent;
 use crate::months;
 use sheet::Outcome;

@@ -2,7 +2,7 @@
 ghost use mathlib.Core.Path.{_≡_};
 ghost use lib.ListN.{length};
 ghost use Rattle.yearbook.specs.LentBook.{zeroBook, freshBook, Opens};
-ghost use Rattle.yearbook.specs.Code.{HoldsRows};
+ghost use Rattle.yearbook.specs.Inner.Code.{HoldsRows};
 use sheet::Outcome;
 use sheet::Refusal;
 use sheet::header;

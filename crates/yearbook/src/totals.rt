@@ -2,8 +2,7 @@
 ghost use mathlib.Core.Path.{_≡_};
 ghost use Prim.Native.Nat.{_≤_, _<_};
 ghost use lib.ListN.{length};
-ghost use Rattle.yearbook.specs.LentBook.{ifMarked, marksIn, blockSum, yearSums};
-ghost use Rattle.yearbook.specs.Code.{refusedTotals, Tells};
+ghost use Rattle.yearbook.specs.LentBook.{ifMarked, marksIn, blockSum, yearSums, refusedTotals, Tells};
 use crate::lent;
 use sheet::Outcome;
 use sheet::Refusal;

@@ -5,7 +5,7 @@ use native.Mathlib.Decide.{decLt}
 use native.Mathlib.Omega.{arith}
 use lib.ListN.{length}
 use Rattle.apportion.specs.Shares.{sum}
-use Rattle.apportion.specs.Selection.{RoundedDown}
+use Rattle.apportion.specs.Inner.Selection.{RoundedDown}
 use Rattle.apportion.proofs.Plan.{none-shared, none-remaining, down-le, left-le, positive-count, top-largest, top-under, out-le, with-leftover, without-leftover}
 use Rattle.apportion.proofs.Plan as plan
 use borrow.Author.Needs.{needs}

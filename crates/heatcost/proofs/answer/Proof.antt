@@ -4,7 +4,8 @@ use Rattle.heatcost.proofs.Numbers.{number-le}
 use mathlib.Core.Path.{ap, subst, sym, _∙_}
 use Prim.Native.Nat.{ℕ, _+_, _*_, _<_}
 use native.Mathlib.Omega.{arith}
-use Rattle.sheet.specs.Refusals.{placeOf, PlaceBelow}
+use Rattle.sheet.specs.Refusals.{placeOf}
+use Rattle.sheet.specs.Inner.Places.{PlaceBelow}
 use Rattle.heatcost.specs.Answer.{answerNumber}
 use borrow.Author.Needs.{needs}
 use Rattle.heatcost.proofs.answer.Statement.{statement}

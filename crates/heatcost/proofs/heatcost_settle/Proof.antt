@@ -1,6 +1,6 @@
 -- `heatcost_settle` meets its contract.
 use mathlib.Core.Path.{ap, subst, sym, _∙_}
-use Rattle.sheet.specs.Refusals.{PlaceBelow}
+use Rattle.sheet.specs.Inner.Places.{PlaceBelow}
 use Rattle.settlement.proofs.Places.{answer-place}
 use Rattle.heatcost.specs.Answer.{answerNumber}
 use borrow.Author.Needs.{needs}

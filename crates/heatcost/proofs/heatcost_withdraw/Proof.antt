@@ -1,6 +1,6 @@
 -- `heatcost_withdraw` meets its contract.
 use mathlib.Core.Path.{ap, subst, sym, _∙_}
-use Rattle.sheet.specs.Refusals.{PlaceBelow}
+use Rattle.sheet.specs.Inner.Places.{PlaceBelow}
 use Rattle.yearbook.specs.LentBook.{withdrawAnswer, lentReply, lentAfter}
 use Rattle.yearbook.proofs.Places.{withdraw-place, same-outcome}
 use Rattle.heatcost.specs.Answer.{answerNumber}

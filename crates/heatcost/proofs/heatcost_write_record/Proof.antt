@@ -1,6 +1,6 @@
 -- `heatcost_write_record` meets its contract.
 use mathlib.Core.Path.{ap, subst, sym, _∙_}
-use Rattle.sheet.specs.Refusals.{PlaceBelow}
+use Rattle.sheet.specs.Inner.Places.{PlaceBelow}
 use Rattle.archive.proofs.Places.{write-place}
 use Rattle.heatcost.specs.Answer.{answerNumber}
 use borrow.Author.Needs.{needs}

@@ -7,7 +7,7 @@ use native.Mathlib.Omega.{arith}
 use borrow.Author.Needs.{needs}
 use lib.ListN.{length, take}
 use lib.Seq.{take-all}
-use Rattle.apportion.specs.Selection.{Counted}
+use Rattle.apportion.specs.Inner.Selection.{Counted}
 use Rattle.apportion.proofs.Counting.{count-le}
 use Rattle.apportion.proofs.Steps.{next-take}
 use Rattle.apportion.proofs.narrowing.count_around.Statement.{statement}

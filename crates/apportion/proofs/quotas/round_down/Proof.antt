@@ -7,7 +7,7 @@ use borrow.Author.Needs.{needs}
 use lib.Dec.{leb}
 use lib.ListN.{length, take, drop, getD, length-map, length-set, drop-of-length-le}
 use Rattle.apportion.specs.Shares.{sum, bit, atLeast, quota, remainder}
-use Rattle.apportion.specs.Selection.{largest}
+use Rattle.apportion.specs.Inner.Selection.{largest}
 use Rattle.apportion.proofs.Counting.{count-le}
 use Rattle.apportion.proofs.Leftover.{quotas-le, quota-le, item-le}
 use Rattle.apportion.proofs.Steps.{next-drop, turn-map, whole-list}

@@ -7,7 +7,7 @@ use native.Mathlib.Omega.{arith}
 use borrow.Author.Needs.{needs}
 use lib.ListN.{length, take, getD, length-set}
 use lib.Seq.{take-all, length-take-le}
-use Rattle.apportion.specs.Selection.{Collected}
+use Rattle.apportion.specs.Inner.Selection.{Collected}
 use Rattle.apportion.proofs.Counting.{antitone}
 use Rattle.apportion.proofs.Near.{collected-le, collected-with}
 use Rattle.apportion.proofs.Steps.{next-take}

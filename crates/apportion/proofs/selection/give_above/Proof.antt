@@ -7,7 +7,7 @@ use borrow.Author.Needs.{needs}
 use lib.ListN.{length, take, drop, getD, length-set}
 use lib.Seq.{getD-set-other}
 use Rattle.apportion.specs.Shares.{added}
-use Rattle.apportion.specs.Selection.{given}
+use Rattle.apportion.specs.Inner.Selection.{given}
 use Rattle.apportion.proofs.Giving.{given-above}
 use Rattle.apportion.proofs.Steps.{next-drop, turn-added, whole-list}
 use Rattle.apportion.proofs.selection.give_above.Statement.{statement}

@@ -4,7 +4,7 @@ use mathlib.Core.List.{List}
 use Prim.Native.Nat.{ℕ}
 use native.Mathlib.Omega.{arith}
 use lib.ListN.{length, getD}
-use Rattle.apportion.specs.Selection.{given}
+use Rattle.apportion.specs.Inner.Selection.{given}
 use Rattle.apportion.proofs.Giving.{one-each, leftover-given}
 use Rattle.apportion.proofs.Leftover.{length-added}
 use borrow.Author.Needs.{needs}

@@ -7,7 +7,7 @@ use borrow.Author.Needs.{needs}
 use lib.ListN.{length, take, drop, getD, length-set, take-append-drop}
 use lib.Seq.{getD-set-other}
 use Rattle.apportion.specs.Shares.{added}
-use Rattle.apportion.specs.Selection.{ties}
+use Rattle.apportion.specs.Inner.Selection.{ties}
 use Rattle.apportion.proofs.Giving.{ties-next, no-ties}
 use Rattle.apportion.proofs.Steps.{next-drop, turn-added, whole-list}
 use Rattle.apportion.proofs.selection.give_ties.Statement.{statement}

@@ -24,14 +24,14 @@ mul-end c = search needs
 add-end : tie.Need-add-end
 add-end c = search needs
 
-slice-aggregate-settle-checked : tie.Need-slice-aggregate-settle-checked
-slice-aggregate-settle-checked c =
+slice-aggregate-settled-checked : tie.Need-slice-aggregate-settled-checked
+slice-aggregate-settled-checked c =
     let st = c .before .before .before in
     let h = c .before .header-field in
     sym (length-take-le (48 + 32 * h .result) (st .args .body .now) (omega (arith, h .ensures, all-length _ (st .pre))))
 
-settle-checked-requires : tie.Need-settle-checked-requires
-settle-checked-requires c κs =
+settled-checked-requires : tie.Need-settled-checked-requires
+settled-checked-requires c κs =
     let st = c .before .before .before in
     ap (λ (k : ℕ). checked 32 (take (48 + 32 * k) (st .args .body .now))) (c .before .header-field .ensures) ∙ inside-checked _ (st .pre)
 
@@ -44,7 +44,7 @@ enum-told-2 c = search needs
 returns : tie.Need-returns
 returns c =
     let st = c .before .before .before .before .before .before .before in
-    let r = c .before .before .before .settle-checked in
+    let r = c .before .before .before .settled-checked in
     refused-body (st .args .body .now) (st .pre) _ (c .before .before .before .before .before .header-field .ensures) (r .result) (r .ensures) _ (c .enum-told2 .given .1)
 
 sub-same-statement : tie.Need-sub-same-statement
@@ -65,14 +65,14 @@ mul-same-statement c = search needs
 same-statement-requires : tie.Need-same-statement-requires
 same-statement-requires c κs =
     let st = c .before .before .before .before .before .before .before .before .before in
-    let r = c .before .before .before .before .before .settle-checked in
+    let r = c .before .before .before .before .before .settled-checked in
     statement-room (st .args .body .now) (st .pre) _ (c .before .before .before .before .before .before .before .header-field .ensures) (r .result) (r .ensures) (c .before .before .enum-told .given .1)
 
 returns-2 : tie.Need-returns-2
 unfolding firstRefusal
 returns-2 c =
     let st = c .before .before .before .before .before .before .before .before .before .before .before in
-    let r = c .before .before .before .before .before .before .before .settle-checked in
+    let r = c .before .before .before .before .before .before .before .settled-checked in
     let t = c .before .same-statement in
     rw (c .if1 .taken) at (by-statement (st .args .body .now) (st .pre) _ (c .before .before .before .before .before .before .before .before .before .header-field .ensures) (r .result) (r .ensures) (c .before .before .before .before .enum-told .given .1) (t .result) (t .ensures))
 
@@ -80,7 +80,7 @@ returns-3 : tie.Need-returns-3
 unfolding firstRefusal
 returns-3 c =
     let st = c .before .before .before .before .before .before .before .before .before .before .before in
-    let r = c .before .before .before .before .before .before .before .settle-checked in
+    let r = c .before .before .before .before .before .before .before .settled-checked in
     let t = c .before .same-statement in
     rw (c .if1 .left) at (by-statement (st .args .body .now) (st .pre) _ (c .before .before .before .before .before .before .before .before .before .header-field .ensures) (r .result) (r .ensures) (c .before .before .before .before .enum-told .given .1) (t .result) (t .ensures))
 
@@ -92,8 +92,8 @@ check-statement-spec =
     cast-n
     mul-end
     add-end
-    slice-aggregate-settle-checked
-    settle-checked-requires
+    slice-aggregate-settled-checked
+    settled-checked-requires
     enum-told
     enum-told-2
     returns

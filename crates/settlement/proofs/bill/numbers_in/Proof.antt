@@ -29,15 +29,15 @@ by-unit st = let a = st .args in energies-are (S st) (a .n) (counted st) (a .a .
 energy-weights-requires : tie.Need-energy-weights-requires
 energy-weights-requires c κs = search needs
 
-bill-requires : tie.Need-bill-requires
-bill-requires c κs = search needs
+bill-cents-requires : tie.Need-bill-cents-requires
+bill-cents-requires c κs = search needs
 
 apportion-requires : tie.Need-apportion-requires
 apportion-requires c κs =
     let st = c .before .before .before .before .before .before .before .before .before .before .before .before .before .before .before .before .before in
     let a = st .pre .0 .0 .accepted in
     let w = c .before .before .before .before .before .before .energy-weights in
-    let b = c .before .before .before .bill in (
+    let b = c .before .before .before .bill-cents in (
       subst⁻¹ (λ (l : List ℕ). (b .result < 2 ^ 32 - 1) × (sum l < 2 ^ 62) × (sum l ≡ 0 → b .result ≡ 0)) (w .ensures ∙ by-unit st) (
         omega (arith, b .ensures, sum-bounds (S st) (a .checked-sheet) .bill),
         omega (arith, energies-sum (S st) a, a .checked-sheet .header .sharedMeter),
@@ -68,7 +68,7 @@ returns : tie.Need-returns
 returns c =
     let st = c .before .before .before .before .before .before .before .before .before .before .before .before .before .before .before .before .before .before .before .before .before .before .before .before .before .before .before in
     let w = c .before .before .before .before .before .before .before .before .before .before .before .before .before .before .before .before .energy-weights in
-    let b = c .before .before .before .before .before .before .before .before .before .before .before .before .before .bill in
+    let b = c .before .before .before .before .before .before .before .before .before .before .before .before .before .bill-cents in
     let p = c .before .before .before .before .before .before .before .before .before .apportion in
     c .before .before .statement-rows .ensures ∙ statement-is (S st) (st .args .n) (counted st) _ _ (p .last .1 .1 .1 .0) (b .result) (by-unit st) (w .ensures) (b .ensures) (p .ensures .0)
 
@@ -77,7 +77,7 @@ numbers-in-spec =
     tie.close
     (tie.spec
     energy-weights-requires
-    bill-requires
+    bill-cents-requires
     apportion-requires
     statement-rows-requires
     same-length

@@ -6,9 +6,9 @@ use borrow.Author.Needs.{needs}
 use lib.ListN.{length, take, length-set}
 use lib.Seq.{take-all}
 use Rattle.sheet.specs.Layout.{sheetOf}
-use Rattle.sheet.specs.Fields.{unitOf}
+use Rattle.sheet.specs.Inner.Fields.{unitOf}
 use Rattle.settlement.specs.declared.gather.By.{By}
-use Rattle.settlement.specs.By.{takesPart, weightOf, weightsBy}
+use Rattle.settlement.specs.Inner.By.{takesPart, weightOf, weightsBy}
 use Rattle.settlement.proofs.Rows.{bit-le, chosen, turn-row}
 use Rattle.settlement.proofs.gather.gather.Statement.{statement}
 use Rattle.settlement.proofs.gather.gather.Tie as tie

@@ -5,9 +5,9 @@ use Prim.Native.Nat.{ℕ}
 use lib.Dec.{eqb}
 use Rattle.apportion.specs.Shares.{bit}
 use Rattle.sheet.specs.Layout.{sheetOf}
-use Rattle.sheet.specs.Fields.{unitOf}
+use Rattle.sheet.specs.Inner.Fields.{unitOf}
 use Rattle.settlement.specs.declared.gather.By.{By}
-use Rattle.settlement.specs.By.{takesPart}
+use Rattle.settlement.specs.Inner.By.{takesPart}
 use borrow.Author.Needs.{needs}
 use Rattle.settlement.proofs.gather.part.Statement.{statement}
 use Rattle.settlement.proofs.gather.part.Tie as tie

@@ -1,9 +1,9 @@
 -- `weight` meets its contract, case by case.
 use mathlib.Core.Path.{sym, ap, _∙_}
 use Rattle.sheet.specs.Layout.{sheetOf}
-use Rattle.sheet.specs.Fields.{unitOf}
+use Rattle.sheet.specs.Inner.Fields.{unitOf}
 use Rattle.settlement.specs.declared.gather.By.{By}
-use Rattle.settlement.specs.By.{weightOf}
+use Rattle.settlement.specs.Inner.By.{weightOf}
 use borrow.Author.Needs.{needs}
 use Rattle.settlement.proofs.gather.weight.Statement.{statement}
 use Rattle.settlement.proofs.gather.weight.Tie as tie

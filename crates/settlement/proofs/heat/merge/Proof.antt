@@ -8,7 +8,7 @@ use borrow.Author.Needs.{needs}
 use lib.Dec.{eqb}
 use lib.ListN.{length, take, drop, length-set}
 use Rattle.sheet.specs.Layout.{sheetOf}
-use Rattle.sheet.specs.Fields.{unitOf}
+use Rattle.sheet.specs.Inner.Fields.{unitOf}
 use Rattle.sheet.proofs.Units.{units-from}
 use Rattle.settlement.proofs.Rows.{bit-le}
 use Rattle.settlement.proofs.Order.{order, turn-order, order-end}

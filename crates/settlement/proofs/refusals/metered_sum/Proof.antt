@@ -7,11 +7,11 @@ use borrow.Author.Needs.{needs}
 use lib.ListN.{take}
 use lib.Seq.{take-all}
 use Rattle.sheet.specs.Layout.{UnitRow, sheetOf}
-use Rattle.sheet.specs.Fields.{unitOf}
+use Rattle.sheet.specs.Inner.Fields.{unitOf}
 use Rattle.sheet.specs.WattHours.{amountOf}
 use Rattle.sheet.proofs.Units.{units-count, units-next}
 use Rattle.month.specs.Weights.{sumOf, meteredSum}
-use Rattle.settlement.specs.Amount.{plusSum}
+use Rattle.settlement.specs.Inner.Amount.{plusSum}
 use Rattle.settlement.proofs.Tests.{sum-next, amount-next}
 use Rattle.settlement.proofs.refusals.metered_sum.Statement.{statement}
 use Rattle.settlement.proofs.refusals.metered_sum.Tie as tie

@@ -9,7 +9,7 @@ use Rattle.month.specs.Steps.{spaceHeat}
 use Rattle.month.specs.Month.{hotWaterWh, spaceHeatWh}
 use Rattle.month.proofs.Accepted.{fits-checked}
 use Rattle.month.proofs.Bounds.{sum-bounds}
-use Rattle.settlement.specs.Amount.{pastSum}
+use Rattle.settlement.specs.Inner.Amount.{pastSum}
 use Rattle.settlement.proofs.Tests.{past-amount}
 use Rattle.settlement.proofs.refusals.meters_exceed.Statement.{statement}
 use Rattle.settlement.proofs.refusals.meters_exceed.Tie as tie

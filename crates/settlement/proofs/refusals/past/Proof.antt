@@ -4,7 +4,7 @@ use Prim.Native.Nat.{ℕ}
 use borrow.Author.Needs.{needs}
 use lib.Dec.{ltb}
 use Rattle.sheet.specs.declared.watt_hours.Sum.{Sum}
-use Rattle.settlement.specs.Amount.{pastSum}
+use Rattle.settlement.specs.Inner.Amount.{pastSum}
 use Rattle.settlement.proofs.refusals.past.Statement.{statement}
 use Rattle.settlement.proofs.refusals.past.Tie as tie
 

@@ -2,7 +2,7 @@
 use mathlib.Core.Path.{sym, ap, _∙_}
 use borrow.Author.Needs.{needs}
 use Rattle.sheet.specs.declared.watt_hours.Sum.{Sum}
-use Rattle.settlement.specs.Amount.{plusSum}
+use Rattle.settlement.specs.Inner.Amount.{plusSum}
 use Rattle.settlement.proofs.refusals.plus_reading.Statement.{statement}
 use Rattle.settlement.proofs.refusals.plus_reading.Tie as tie
 

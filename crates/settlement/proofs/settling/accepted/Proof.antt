@@ -16,18 +16,18 @@ header-field-requires-2 c κs = search needs
 header-field-requires-3 : tie.Need-header-field-requires-3
 header-field-requires-3 c κs = search needs
 
-bill-requires : tie.Need-bill-requires
-bill-requires c κs = search needs
+bill-cents-requires : tie.Need-bill-cents-requires
+bill-cents-requires c κs = search needs
 
 cast-t10 : tie.Need-cast-t10
-cast-t10 c = let st = c .before .before .before .before .before in omega (arith, c .bill .ensures, sum-bounds (sheetOf (st .args .s .now)) (st .pre .0 .accepted .checked-sheet) .bill)
+cast-t10 c = let st = c .before .before .before .before .before in omega (arith, c .bill-cents .ensures, sum-bounds (sheetOf (st .args .s .now)) (st .pre .0 .accepted .checked-sheet) .bill)
 
 statement-of-requires : tie.Need-statement-of-requires
 statement-of-requires c κs = search needs
 
 returns : tie.Need-returns
 unfolding monthOf
-returns c = rw (c .before .before .before .before .header-field .ensures, c .before .before .before .header-field2 .ensures, c .before .before .header-field3 .ensures, c .before .bill .ensures, c .statement-of .ensures, c .before .before .before .before .before .before .pre .0 .count)
+returns c = rw (c .before .before .before .before .header-field .ensures, c .before .before .before .header-field2 .ensures, c .before .before .header-field3 .ensures, c .before .bill-cents .ensures, c .statement-of .ensures, c .before .before .before .before .before .before .pre .0 .count)
 
 pub accepted-spec : {M : Type 1} → statement M
 accepted-spec =
@@ -36,7 +36,7 @@ accepted-spec =
     header-field-requires
     header-field-requires-2
     header-field-requires-3
-    bill-requires
+    bill-cents-requires
     cast-t10
     statement-of-requires
     returns)

@@ -20,8 +20,8 @@ returns c =
     let o = c .before .before .check-sheet in
     refused-sheet (a .sheet .now) (a .statement .now) (o .result) _ (o .ensures) (c .enum-told2 .given .1)
 
-settle-into-requires : tie.Need-settle-into-requires
-settle-into-requires c κs = sym (c .before .before .before .check-sheet .ensures) ∙ c .before .enum-told .given .1
+settle-checked-requires : tie.Need-settle-checked-requires
+settle-checked-requires c κs = sym (c .before .before .before .check-sheet .ensures) ∙ c .before .enum-told .given .1
 
 same-length : tie.Need-same-length
 same-length c = search needs
@@ -37,6 +37,6 @@ settle-spec =
     enum-told
     enum-told-2
     returns
-    settle-into-requires
+    settle-checked-requires
     same-length
     returns-2)

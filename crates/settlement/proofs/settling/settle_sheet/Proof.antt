@@ -17,8 +17,8 @@ refused-requires c κs = search needs
 enum-told : tie.Need-enum-told
 enum-told c = search needs
 
-settle-checked-requires : tie.Need-settle-checked-requires
-settle-checked-requires c κs = sym (c .before .before .check-sheet .ensures) ∙ c .enum-told .given .1
+settled-checked-requires : tie.Need-settled-checked-requires
+settled-checked-requires c κs = sym (c .before .before .check-sheet .ensures) ∙ c .enum-told .given .1
 
 returns : tie.Need-returns
 returns c = rw (settled-in-order _, sym (c .before .before .before .before .check-sheet .ensures) ∙ c .before .before .r .given .1) (c .refused .ensures)
@@ -34,6 +34,6 @@ settle-sheet-spec =
     enum-known-r
     refused-requires
     enum-told
-    settle-checked-requires
+    settled-checked-requires
     returns
     returns-2)

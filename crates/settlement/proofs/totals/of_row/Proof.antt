@@ -4,8 +4,8 @@ use mathlib.Core.Bool.{not}
 use Prim.Native.Nat.{ℕ}
 use lib.Dec.{eqb}
 use Rattle.sheet.specs.Layout.{sheetOf}
-use Rattle.sheet.specs.Fields.{unitOf}
-use Rattle.settlement.specs.Totals.{onlyIf, ofUnit, Within}
+use Rattle.sheet.specs.Inner.Fields.{unitOf}
+use Rattle.settlement.specs.Inner.Totals.{onlyIf, ofUnit, Within}
 use Rattle.settlement.proofs.Rows.{unit-fits}
 use Rattle.settlement.proofs.Sums.{unit-within}
 use borrow.Author.Needs.{needs}

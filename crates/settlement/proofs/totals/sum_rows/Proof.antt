@@ -6,12 +6,12 @@ use native.Mathlib.Omega.{arith}
 use lib.ListN.{take, length-take}
 use lib.Seq.{take-all}
 use Rattle.sheet.specs.Layout.{UnitRow, sheetOf}
-use Rattle.sheet.specs.Fields.{unitOf}
-use Rattle.sheet.specs.Fits.{Fits, UnitFits}
+use Rattle.sheet.specs.Inner.Fields.{unitOf}
+use Rattle.sheet.specs.Inner.Fits.{Fits, UnitFits}
 use Rattle.sheet.proofs.Units.{units-next}
 use Rattle.month.proofs.Lists.{each-take}
 use Rattle.settlement.specs.declared.totals.Totals.{Totals}
-use Rattle.settlement.specs.Totals.{ofUnit, plusTotals, Within}
+use Rattle.settlement.specs.Inner.Totals.{ofUnit, plusTotals, Within}
 use Rattle.settlement.proofs.Sums.{Sums, sums-next, sums-within, totals-of}
 use Rattle.settlement.proofs.totals.sum_rows.Statement.{statement}
 use Rattle.settlement.proofs.totals.sum_rows.Tie as tie

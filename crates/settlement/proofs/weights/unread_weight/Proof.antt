@@ -5,7 +5,7 @@ use Prim.Native.Nat.{ℕ, _≤_}
 use native.Mathlib.Omega.{arith}
 use lib.Dec.{eqb}
 use Rattle.sheet.specs.Layout.{sheetOf}
-use Rattle.sheet.specs.Fields.{unitOf}
+use Rattle.sheet.specs.Inner.Fields.{unitOf}
 use Rattle.month.specs.Weights.{unreadWeight}
 use Rattle.month.proofs.Bounds.{three-le}
 use Rattle.settlement.proofs.Rows.{unit-fits, two-le}

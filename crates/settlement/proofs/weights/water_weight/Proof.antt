@@ -8,9 +8,9 @@ use borrow.Author.Needs.{needs}
 use lib.Dec.{eqb}
 use Rattle.sheet.specs.Tests.{if_then_else_}
 use Rattle.sheet.specs.Layout.{sheetOf}
-use Rattle.sheet.specs.Fields.{unitOf}
+use Rattle.sheet.specs.Inner.Fields.{unitOf}
 use Rattle.month.specs.Weights.{unitsOfClass, litresOfClass1, personsOfClass2, waterWeight}
-use Rattle.settlement.specs.Totals.{onlyIf}
+use Rattle.settlement.specs.Inner.Totals.{onlyIf}
 use Rattle.settlement.proofs.Rows.{unit-fits, two-le}
 use Rattle.settlement.proofs.Sums.{only-le}
 use Rattle.settlement.proofs.weights.water_weight.Statement.{statement}

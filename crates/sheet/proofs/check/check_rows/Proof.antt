@@ -9,7 +9,7 @@ use lib.ListN.{length, getD, drop}
 use Rattle.sheet.specs.declared.refusal.Outcome.the-variants.{Accepted}
 use Rattle.sheet.specs.Tests.{all}
 use Rattle.sheet.specs.Layout.{sheetOf}
-use Rattle.sheet.specs.Fields.{unitOf}
+use Rattle.sheet.specs.Inner.Fields.{unitOf}
 use Rattle.sheet.proofs.Walk.{tests-more, tests-fault, tests-end, row-length, row-test, rowsFrom, testsOf, row-fault, order-fault, rows-more, rows-end}
 use Rattle.sheet.proofs.check.check_rows.Statement.{statement}
 use Rattle.sheet.proofs.check.check_rows.Tie as tie

@@ -3,7 +3,7 @@ use Prim.Native.Nat.{ℕ, suc, _-_}
 use native.Mathlib.Omega.{arith}
 use lib.Dec.{leb}
 use Rattle.sheet.specs.Layout.{sheetOf}
-use Rattle.sheet.specs.Fields.{unitOf, idBefore}
+use Rattle.sheet.specs.Inner.Fields.{unitOf, idBefore}
 use Rattle.sheet.specs.Check.{notAbove}
 use borrow.Author.Needs.{needs}
 use Rattle.sheet.proofs.check.not_above.Statement.{statement}

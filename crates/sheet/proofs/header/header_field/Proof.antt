@@ -1,7 +1,7 @@
 use mathlib.Core.Path.{_≡_, ap, _∙_}
 use native.Mathlib.Omega.{arith}
 use Rattle.sheet.specs.Layout.{sheetOf}
-use Rattle.sheet.specs.Fields.{headerField}
+use Rattle.sheet.specs.Inner.Fields.{headerField}
 use Rattle.sheet.proofs.Fields.{header-byte, header-later-byte, header-le32}
 use borrow.Author.Needs.{needs}
 use Rattle.sheet.proofs.header.header_field.Statement.{statement}

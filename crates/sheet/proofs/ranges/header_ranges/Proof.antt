@@ -1,6 +1,6 @@
 use mathlib.Core.List.{[], _∷_}
 use Rattle.sheet.specs.Check.{_to_}
-use Rattle.sheet.specs.FieldRanges.{headerRanges}
+use Rattle.sheet.specs.Inner.FieldRanges.{headerRanges}
 use borrow.Author.Needs.{needs}
 use Rattle.sheet.proofs.ranges.header_ranges.Statement.{statement}
 use Rattle.sheet.proofs.ranges.header_ranges.Tie as tie

@@ -1,6 +1,6 @@
 use mathlib.Core.List.{[], _∷_}
 use Rattle.sheet.specs.Check.{_to_}
-use Rattle.sheet.specs.FieldRanges.{rowRanges}
+use Rattle.sheet.specs.Inner.FieldRanges.{rowRanges}
 use borrow.Author.Needs.{needs}
 use Rattle.sheet.proofs.ranges.row_ranges.Statement.{statement}
 use Rattle.sheet.proofs.ranges.row_ranges.Tie as tie

@@ -1,7 +1,7 @@
 use mathlib.Core.Path.{_≡_, sym, ap, _∙_}
 use native.Mathlib.Omega.{arith}
 use lib.ListN.{List·getD-eq-default}
-use Rattle.sheet.specs.Fields.{unitRowAt, rowField, rowFields}
+use Rattle.sheet.specs.Inner.Fields.{unitRowAt, rowField, rowFields}
 use Rattle.sheet.proofs.Fields.{row-byte, row-le32, row-le16, inside, outside}
 use borrow.Author.Needs.{needs}
 use Rattle.sheet.proofs.rows.field_at.Statement.{statement}

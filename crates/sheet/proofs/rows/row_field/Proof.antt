@@ -33,7 +33,7 @@ use denote.Triple.Spec.{Meets, tripleOf}
 use denote.Triple.Table.{entered, cited}
 use denote.Triple.Walked.{says, Stays, stay-none, stay-none-slice, walkOf, goes-none, goes-none-slice, ends-at, walked, walk-meets}
 use denote.Exit.{yes}
-use Rattle.sheet.specs.Fields.{fieldAt}
+use Rattle.sheet.specs.Inner.Fields.{fieldAt}
 use Rattle.sheet.specs.declared.rows.RowView.{RowView}
 use Rattle.sheet.proofs.View.{Bytes, View, number, answered}
 use Rattle.sheet.proofs.rows.RowView as T

@@ -2,7 +2,7 @@ use mathlib.Core.Path.{sym, ap, _∙_}
 use Prim.Native.Nat.{_+_, _*_}
 use native.Mathlib.Omega.{arith}
 use Rattle.sheet.specs.Layout.{UnitRow}
-use Rattle.sheet.specs.Fields.{rowField}
+use Rattle.sheet.specs.Inner.Fields.{rowField}
 use Rattle.sheet.proofs.Units.{unit-at}
 use Rattle.sheet.proofs.Fields.{inside}
 use borrow.Author.Needs.{needs}

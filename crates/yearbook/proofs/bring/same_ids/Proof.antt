@@ -7,7 +7,7 @@ use Prim.Native.Nat.{ℕ, _+_, _-_, _<_, _≤_}
 use lib.ListN.{length, getD, take, drop, length-take, length-drop}
 use lib.Seq.{getD-take, getD-drop, ext-getD}
 use Rattle.sheet.specs.Layout.{sheetOf}
-use Rattle.yearbook.specs.Code.{HoldsRows}
+use Rattle.yearbook.specs.Inner.Code.{HoldsRows}
 use Rattle.yearbook.proofs.Writes.{ids-length}
 use Rattle.yearbook.proofs.Building.{id-at, differ-at, same-lists}
 use Rattle.yearbook.proofs.bring.same_ids.Statement.{statement}

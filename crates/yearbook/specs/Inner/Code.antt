@@ -4,15 +4,11 @@ use mathlib.Core.Bool.{Bool, true, false, not}
 use mathlib.Core.List.{List}
 use Prim.Native.Nat.{ℕ, _+_, _*_, _≤_}
 use lib.Dec.{eqb}
-use lib.ListN.{length, getD, replicate}
-use Rattle.sheet.specs.declared.refusal.Refusal.{Refusal}
-use Rattle.sheet.specs.declared.refusal.Outcome.{Outcome}
-use Rattle.sheet.specs.declared.refusal.Outcome.the-variants.{Accepted, Refused}
+use lib.ListN.{length, getD}
 use Rattle.sheet.specs.Layout.{sheetOf}
 use Rattle.month.specs.Month.{monthOf, Settled, settledSheet}
-use Rattle.yearbook.specs.declared.totals.YearTotals.{YearTotals}
-use Rattle.yearbook.specs.Calls.{Call, post, replace, year, Reply}
-use Rattle.yearbook.specs.LentBook.{markAt, placeOfMonth, badBook, padded, yearOutcome, marksIn, yearSums, yearReply, Answered}
+use Rattle.yearbook.specs.Calls.{Call, post, replace}
+use Rattle.yearbook.specs.LentBook.{markAt, placeOfMonth, badBook, padded}
 
 -- ---- post and replace
 abbrev pub bringCall : (replacing : Bool) → List ℕ → Call
@@ -42,18 +38,3 @@ pub record Brings (b sheet : List ℕ) (month n meter bill : ℕ) (block : List 
   pub meter-is : meter ≡ monthOf (sheetOf sheet) .meter
   pub bill-is : bill ≡ monthOf (sheetOf sheet) .bill
   pub block-is : block ≡ padded (monthOf (sheetOf sheet) .unitCount) (monthOf (sheetOf sheet) .numbers)
-
--- ---- year: the reply by value, k and all sums 0 where it is refused
-abbrev pub toReply : YearTotals → Reply
-toReply t = yearReply (t .outcome) (t .k) (t .sums)
-
-abbrev pub refusedTotals : Refusal → YearTotals
-refusedTotals r = record { outcome = Refused r; k = 0; sums = replicate 8 0 }
-
-abbrev pub totalsBy : Outcome → (k : ℕ) → (sums : List ℕ) → YearTotals
-totalsBy Accepted k sums = record { outcome = Accepted; k = k; sums = sums }
-totalsBy (Refused r) k sums = refusedTotals r
-
-pub record Tells (b : List ℕ) (place : ℕ) (t : YearTotals) : Type 0 where
-  pub answered : Answered b (year place) (toReply t) b
-  pub whole : t ≡ totalsBy (yearOutcome b place) (marksIn b) (yearSums b place)

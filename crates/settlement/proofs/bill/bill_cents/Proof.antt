@@ -6,8 +6,8 @@ use borrow.Author.Needs.{needs}
 use Rattle.month.specs.Month.{billCents}
 use Rattle.month.proofs.Accepted.{fits-checked}
 use Rattle.month.proofs.Bounds.{sum-bounds}
-use Rattle.settlement.proofs.bill.bill.Statement.{statement}
-use Rattle.settlement.proofs.bill.bill.Tie as tie
+use Rattle.settlement.proofs.bill.bill_cents.Statement.{statement}
+use Rattle.settlement.proofs.bill.bill_cents.Tie as tie
 
 head-requires : tie.Need-head-requires
 head-requires c κs = search needs
@@ -28,5 +28,5 @@ returns : tie.Need-returns
 unfolding billCents
 returns c = ap₂ (λ (m p : ℕ). (m * p + 500000) / 1000000) (c .before .head .ensures) (c .head2 .ensures)
 
-pub bill-spec : {M : Type 1} → statement M
-bill-spec = tie.close (tie.spec head-requires head-requires-2 mul-result add-result returns)
+pub bill-cents-spec : {M : Type 1} → statement M
+bill-cents-spec = tie.close (tie.spec head-requires head-requires-2 mul-result add-result returns)

@@ -5,7 +5,8 @@ use Prim.Native.Nat.{_*_, _≤_, _<_}
 use lib.ListN.{length}
 use Rattle.apportion.specs.Shares.{sum}
 use Rattle.sheet.specs.Layout.{Sheet}
-use Rattle.sheet.specs.Fits.{Each, UnitFits, HeaderFits}
+use Rattle.sheet.specs.Inner.Fits.{UnitFits, HeaderFits}
+use Rattle.sheet.specs.Tests.{Each}
 use Rattle.month.specs.Weights.{readUnits, allMetered, meteredSum, hasPool, totalArea, unreadWeights}
 use Rattle.month.specs.Month.{hotWaterWh, spaceHeatWh, zeroDivisor}
 

@@ -4,10 +4,10 @@ use mathlib.Core.List.{List}
 use Prim.Native.Nat.{ℕ, _<_}
 use lib.ListN.{length, take}
 use Rattle.sheet.specs.Layout.{Sheet, sheetOf}
-use Rattle.sheet.specs.Fits.{Fits}
+use Rattle.sheet.specs.Inner.Fits.{Fits}
 use Rattle.month.specs.Steps.{wholeWh, heat, commonHeat, water, commonWater}
-use Rattle.month.specs.Accepted.{AcceptedSheet}
-use Rattle.settlement.specs.Totals.{TotalsOf, Within}
+use Rattle.month.specs.Inner.Accepted.{AcceptedSheet}
+use Rattle.settlement.specs.Inner.Totals.{TotalsOf, Within}
 use Rattle.settlement.specs.declared.totals.Totals.{Totals}
 
 -- row i of a sheet that passes 1 to 7

@@ -4,16 +4,12 @@ use mathlib.Core.List.{List, [], _∷_, map}
 use Prim.Native.Nat.{ℕ, _+_, _*_, _≤_, _<_}
 use lib.ListN.{length}
 use Rattle.sheet.specs.declared.ranges.Range.{Range}
+use Rattle.sheet.specs.Tests.{Each}
 use Rattle.sheet.specs.Layout.{UnitRow, Sheet, sheetOf, waterReading}
 use Rattle.sheet.specs.Check.{entry, basePercentRanges, commonHeatRanges, unmeteredFactorRanges, commonWaterRanges, lossFactorRanges, firstWaterReadingRanges, otherWaterReadingRanges}
 
 abbrev pub InRange : ℕ → Range → Type 0
 InRange x r = (r .low ≤ x) × (x ≤ r .high)
-
--- a fact of each of a list
-abbrev pub Each : {A : Type 0} → (A → Type 0) → List A → Type 0
-Each P [] = Unit {0}
-Each P (x ∷ xs) = P x × Each P xs
 
 -- each number is below the next
 abbrev pub Increasing : List ℕ → Type 0

@@ -1,0 +1,105 @@
+-- Computed cases, from the bytes on: the record of case A (document 01, "Cases for the proofs") read, damaged, cut, lengthened and written. One table, one theorem.
+use mathlib.Core.Path.{_≡_, refl}
+use mathlib.Core.List.{List, [], _∷_, _++_, map}
+use Prim.Native.Nat.{ℕ}
+use lib.ListN.{take, drop}
+use Rattle.apportion.specs.Shares.{sharesBy}
+use Rattle.sheet.specs.declared.refusal.Outcome.{Outcome}
+use Rattle.sheet.specs.declared.refusal.Outcome.the-variants.{Accepted, Refused}
+use Rattle.sheet.specs.Tests.{all, any}
+use Rattle.sheet.specs.Refusals.{numberOf, placeOf, firstRefusal}
+use Rattle.sheet.specs.Layout.{unitRow, rows, sheetOf, inBytes}
+use Rattle.sheet.specs.Check.{headerTests, rowTests, rowRules, sheetRules}
+use Rattle.sheet.specs.Cases.Samples.{zeros, put, unitBytes, joined, sheetBytes, caseA}
+use Rattle.month.specs.Weights.{allMetered, meteredSum, hasPool, totalArea, unreadWeight, unreadWeights, poolWeight, readingSum, readArea, readSurface, areaWeight, surfaceWeight, readWeight, readWeights, unitsOfClass, litresOfClass1, personsOfClass2, waterWeight}
+use Rattle.month.specs.Steps.{splitBy, inUnitOrder, unitByUnit, hotWater, spaceHeat, heatParts, poolShares, readShares, heat, commonHeat, waterParts, water, commonWater, energies}
+use Rattle.month.specs.Month.{hotWaterWh, spaceHeatWh, zeroWaterDivisor, zeroDivisor, monthRules, billCents, costs, fourAndFour, statementOf, monthOf, settleRules, settledSheet}
+use Rattle.archive.specs.Record.{archiveRecord}
+use Rattle.archive.specs.Reader.{bodyRules, readRules, readOutcome, startOf, countOf}
+use Rattle.archive.specs.Writer.{writeAnswer, recordAfter}
+
+-- ---- the record of case A, byte by byte
+-- month 1, model 3, three units, v 30, z 20, f 30; M 1,000,000; price 10,000
+abbrev header : List ℕ
+header =
+    (72 ∷ 67 ∷ 83 ∷ 0 ∷ 1 ∷ 0 ∷ 1 ∷ 3 ∷ 3 ∷ 0 ∷ 0 ∷ 30 ∷ 20 ∷ 0 ∷ 30 ∷ 0 ∷ 64 ∷ 66 ∷ 15 ∷ 0 ∷ 16 ∷ 39 ∷ 0 ∷ 0 ∷ [])
+    ++ zeros 24
+
+-- KF 1,000; p and b in two bytes each
+abbrev unit : (id p₀ p₁ b₀ b₁ : ℕ) → List ℕ
+unit id p₀ p₁ b₀ b₁ = (id ∷ 0 ∷ 0 ∷ 0 ∷ 0 ∷ 0 ∷ 232 ∷ 3 ∷ p₀ ∷ p₁ ∷ []) ++ (zeros 10 ++ ((b₀ ∷ b₁ ∷ []) ++ zeros 10))
+
+-- 116,000, 50,000, 0, 0, 1,160, 500, 0, 0; 228,000, 50,000, 0, 0, 2,280, 500, 0, 0; 456,000, 100,000, 0, 0, 4,560, 1,000, 0, 0
+statementA : List ℕ
+statementA =
+    (32 ∷ 197 ∷ 1 ∷ 0 ∷ 80 ∷ 195 ∷ 0 ∷ 0 ∷ zeros 8)
+    ++ ((136 ∷ 4 ∷ 0 ∷ 0 ∷ 244 ∷ 1 ∷ 0 ∷ 0 ∷ zeros 8)
+    ++ ((160 ∷ 122 ∷ 3 ∷ 0 ∷ 80 ∷ 195 ∷ 0 ∷ 0 ∷ zeros 8)
+    ++ ((232 ∷ 8 ∷ 0 ∷ 0 ∷ 244 ∷ 1 ∷ 0 ∷ 0 ∷ zeros 8)
+    ++ ((64 ∷ 245 ∷ 6 ∷ 0 ∷ 160 ∷ 134 ∷ 1 ∷ 0 ∷ zeros 8)
+    ++ (208 ∷ 17 ∷ 0 ∷ 0 ∷ 232 ∷ 3 ∷ 0 ∷ 0 ∷ zeros 8)))))
+
+recordA : List ℕ
+recordA = (72 ∷ 67 ∷ 65 ∷ 0 ∷ 1 ∷ 0 ∷ 0 ∷ 0 ∷ []) ++ (header ++ (unit 11 244 1 100 0 ++ (unit 12 244 1 44 1 ++ (unit 13 232 3 88 2 ++ statementA))))
+
+-- ---- answers: the bytes handed back or written, or number and place with the bytes left
+pub data Answer : Type 0 where
+  accepts : List ℕ → Answer
+  refuses : (number place : ℕ) → List ℕ → Answer
+
+abbrev answer : Outcome → List ℕ → Answer
+answer Accepted bytes = accepts bytes
+answer (Refused r) bytes = refuses (numberOf r) (placeOf r) bytes
+
+reads : List ℕ → Answer
+reads bytes = let o = readOutcome bytes in answer o (take (countOf o bytes) (drop (startOf o) bytes))
+
+writes : (sheet list : List ℕ) → Answer
+writes sheet list = answer (writeAnswer sheet list) (recordAfter sheet list)
+
+-- ---- the table
+infix 15 _gives_
+pub data Case : Type 0 where
+  _gives_ : Answer → Answer → Case
+
+abbrev pub given : Case → Answer
+given (x gives y) = x
+
+abbrev pub expected : Case → Answer
+expected (x gives y) = y
+
+pub cases : List Case
+cases =
+    (reads recordA gives accepts caseA)
+    -- 14: under 8 bytes; mark, version, last byte of the head
+    ∷ (reads [] gives refuses 14 0 [])
+    ∷ (reads (take 7 recordA) gives refuses 14 0 [])
+    ∷ (reads (put 0 0 recordA) gives refuses 14 0 [])
+    ∷ (reads (put 4 2 recordA) gives refuses 14 0 [])
+    ∷ (reads (put 7 1 recordA) gives refuses 14 0 [])
+    -- the sheet's, from byte 8: 1, 2, 5, 6, 12
+    ∷ (reads (take 8 recordA) gives refuses 1 0 [])
+    ∷ (reads (put 8 0 recordA) gives refuses 2 0 [])
+    ∷ (reads (take 247 recordA) gives refuses 5 0 [])
+    ∷ (reads (recordA ++ zeros 1) gives refuses 5 0 [])
+    ∷ (reads (put 124 5 recordA) gives refuses 6 2 [])
+    ∷ (reads (put 124 1 (put 141 0 (put 140 0 recordA))) gives refuses 12 0 [])
+    -- 14: b of the first unit, and the statement's first, middle and last byte
+    ∷ (reads (put 76 101 recordA) gives refuses 14 0 [])
+    ∷ (reads (put 152 33 recordA) gives refuses 14 0 [])
+    ∷ (reads (put 200 137 recordA) gives refuses 14 0 [])
+    ∷ (reads (put 247 1 recordA) gives refuses 14 0 [])
+    -- written; 13 on a list of another length; 5 before 13
+    ∷ (writes caseA (zeros 248) gives accepts recordA)
+    ∷ (writes caseA (7 ∷ zeros 246) gives refuses 13 0 (7 ∷ zeros 246))
+    ∷ (writes (take 143 caseA) (7 ∷ []) gives refuses 5 0 (7 ∷ []))
+    ∷ []
+
+pub all-cases : map given cases ≡ map expected cases
+unfolding cases statementA recordA reads writes
+    unitBytes joined sheetBytes inBytes archiveRecord bodyRules readRules readOutcome writeAnswer recordAfter
+    sharesBy all any firstRefusal unitRow rows sheetOf headerTests rowTests rowRules sheetRules
+    allMetered meteredSum hasPool totalArea unreadWeight unreadWeights poolWeight readingSum readArea readSurface areaWeight surfaceWeight readWeight readWeights unitsOfClass litresOfClass1 personsOfClass2 waterWeight
+    splitBy inUnitOrder unitByUnit hotWater spaceHeat heatParts poolShares readShares heat commonHeat waterParts water commonWater energies
+    hotWaterWh spaceHeatWh zeroWaterDivisor zeroDivisor monthRules billCents costs fourAndFour statementOf monthOf settleRules settledSheet
+all-cases = refl

@@ -1,0 +1,3 @@
+-- What inner functions promise each other. Nothing in here need be believed.
+pub mod Accepted
+pub mod Bounds

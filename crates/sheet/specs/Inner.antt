@@ -1,0 +1,5 @@
+-- What inner functions promise each other. Nothing in here need be believed.
+pub mod Fields
+pub mod FieldRanges
+pub mod Fits
+pub mod Places
