@@ -1,9 +1,12 @@
 // Dividing a whole by weights, exactly, by the largest-remainder method (document 01, "Dividing").
 mod narrowing;
+mod order;
 mod quotas;
 mod quotient;
 mod selection;
 
+pub use order::larger;
+pub use order::smaller;
 ghost use mathlib.Core.Path.{_≡_};
 ghost use Prim.Native.Nat.{_-_, _^_, _<_};
 ghost use lib.ListN.{length};

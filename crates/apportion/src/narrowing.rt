@@ -1,21 +1,16 @@
 // The threshold that separates the keys that get one of the leftover from those that don't, by counting passes that narrow a bracket.
 ghost use mathlib.Core.Path.{_≡_};
-ghost use Prim.Native.Nat.{_+_, _-_, _^_, _≤_, _<_, min};
+ghost use Prim.Native.Nat.{_+_, _-_, _^_, _≤_, _<_};
 ghost use Rattle.apportion.specs.Shares.{atLeast};
 ghost use Rattle.apportion.specs.Inner.Selection.{Counted, CountedWith, Cuts};
-use super::quotas::larger;
+use super::order::larger;
+use super::order::smaller;
 
 // How many keys reach a number m. No key lies from `below` up to m, nor from m up to `above`.
 pub struct Count {
     pub count: u64,
     pub below: u64,
     pub above: u64,
-}
-
-pub(crate) fn smaller(a: u64, b: u64) -> u64
-    ensures { λ r. ⌜ r ≡ min a b ⌝ }
-{
-    if a < b { a } else { b }
 }
 
 // The count with one key more.

@@ -1,9 +1,10 @@
 // The quotas and remainders of all items.
 ghost use mathlib.Core.Path.{_≡_};
-ghost use Prim.Native.Nat.{_^_, _≤_, _<_, max};
+ghost use Prim.Native.Nat.{_^_, _≤_, _<_};
 ghost use lib.ListN.{length, replicate};
 ghost use Rattle.apportion.specs.Shares.{sum, bit};
 ghost use Rattle.apportion.specs.Inner.Selection.{RoundedDown};
+use super::order::larger;
 use super::quotient::mul_div;
 
 pub(crate) fn sum_of(ws: &[u64]) -> u64
@@ -17,12 +18,6 @@ pub(crate) fn sum_of(ws: &[u64]) -> u64
         i += 1;
     }
     s
-}
-
-pub(crate) fn larger(a: u64, b: u64) -> u64
-    ensures { λ r. ⌜ r ≡ max a b ⌝ }
-{
-    if a < b { b } else { a }
 }
 
 pub(crate) fn one_if(b: bool) -> u64

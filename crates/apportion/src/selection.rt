@@ -8,8 +8,8 @@ ghost use Rattle.apportion.specs.Shares.{atLeast, extras, added};
 ghost use Rattle.apportion.specs.Inner.Selection.{largest, Cuts, Collected, given, ties};
 use super::narrowing::Cut;
 use super::narrowing::narrow;
-use super::narrowing::smaller;
-use super::quotas::larger;
+use super::order::larger;
+use super::order::smaller;
 use super::quotas::one_if;
 
 // How many keys lie above a bracket, and how many in it.

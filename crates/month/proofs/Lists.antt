@@ -47,7 +47,7 @@ pub sum-whole : (n : ℕ) (xs : List ℕ) → length xs ≡ n → sum (take n xs
 sum-whole n xs e = ap sum (take-all n xs (omega arith))
 
 -- ---- near lists
-getD-tail : {A : Type 0} (xs : List A) (i : ℕ) (d : A) → getD (drop 1 xs) i d ≡ getD xs (suc i) d
+pub getD-tail : {A : Type 0} (xs : List A) (i : ℕ) (d : A) → getD (drop 1 xs) i d ≡ getD xs (suc i) d
 getD-tail [] i d = refl
 getD-tail (x ∷ xs) i d = refl
 

@@ -13,8 +13,8 @@ use Rattle.sheet.specs.declared.refusal.Outcome.the-variants.{Accepted, Refused
 use Rattle.sheet.specs.Refusals.{Rule, _⇒_, firstRefusal}
 use Rattle.sheet.specs.Layout.{sheetOf}
 use Rattle.sheet.specs.Check.{sheetRules, checked}
-use Rattle.month.specs.Month.{Month, Settled, refused, settled, statementOf, monthOf, monthRules, settleRules, settledSheet, unlessRefused}
-use Rattle.settlement.specs.Settle.{settlementOf, answerOf, settleAnswer, statementAfter}
+use Rattle.month.specs.Month.{Month, settled, statementOf, monthOf, monthRules, settleRules, settledSheet, unlessRefused}
+use Rattle.settlement.specs.Settle.{answerOf, settleAnswer, statementAfter}
 
 -- ---- 1 to 12
 abbrev pub orElse : Outcome → Outcome → Outcome
@@ -32,10 +32,6 @@ unfolding settledSheet settleRules checked
 settled-in-order bytes = ap (λ (o : Outcome). unlessRefused o (monthOf (sheetOf bytes))) (first-of-both (sheetRules 32 bytes) (monthRules (sheetOf bytes)))
 
 -- ---- 13
-pub month-held : (x : Settled) → settlementOf x .outcome ≡ Accepted → (m : Month) × (x ≡ settled m)
-month-held (settled m) e = (m, refl)
-month-held (refused q) e = absurd (let z : _≡_ {A = ℕ} 0 1 = cc in omega arith)
-
 module _ (bytes list : List ℕ) where
   pub refused-sheet : (o : Outcome) (q : Refusal) → o ≡ checked 32 bytes → o ≡ Refused q → (o ≡ settleAnswer bytes list) × (list ≡ statementAfter bytes list)
   unfolding settleAnswer statementAfter

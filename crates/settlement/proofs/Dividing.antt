@@ -1,26 +1,28 @@
--- What each division goes by, that it fits, and that one over all units gives each unit a number. Assumes nothing.
+-- What each division goes by, that it fits, and what one over all units gives. Assumes nothing.
 use mathlib.Core.Path.{_≡_, refl, sym, ap, subst, _∙_}
 use mathlib.Core.Bool.{true}
 use mathlib.Core.List.{List, [], _∷_, map}
-use Prim.Native.Nat.{ℕ, _-_, _^_, _≤_, _<_}
+use Prim.Native.Nat.{ℕ, _^_, _≤_, _<_}
 use native.Mathlib.Omega.{arith}
+use borrow.Author.Tests.{eq-eqb, ne-eqb}
 use lib.ListN.{length, take, length-map}
 use lib.Seq.{length-take-le}
 use Rattle.apportion.specs.Shares.{sum, shares}
 use Rattle.apportion.proofs.Laws.{shares-fair}
 use Rattle.sheet.specs.Layout.{UnitRow, Sheet, sheetOf}
-use Rattle.month.specs.Weights.{those, totalArea, unreadWeights, readWeights}
-use Rattle.month.specs.Steps.{wholeWh, waterParts}
+use Rattle.month.specs.Weights.{those, allMetered, totalArea, unreadWeights, readWeights}
+use Rattle.month.specs.Steps.{wholeWh, heat, commonHeat, waterParts, water, commonWater}
 use Rattle.month.specs.Inner.Accepted.{CheckedSheet}
 use Rattle.month.proofs.Accepted.{load-positive, area-positive}
 use Rattle.month.proofs.Bounds.{sum-bounds, weight-bounds}
 use Rattle.month.proofs.Divisions.{units-heat, common-heat, water-divisible, common-water-divisible}
 use Rattle.month.proofs.DivisionBounds.{units-heat-le, common-heat-le, units-water-le, common-water-le}
-use Rattle.settlement.specs.Inner.By.{takesPart, weightOf, weightsBy}
-use Rattle.settlement.specs.Inner.Ready.{Accepts}
-use Rattle.settlement.specs.declared.gather.By.{By}
-use Rattle.settlement.specs.declared.gather.By.the-variants.{Load, Area, Unread, Read, Water, Persons}
-use Rattle.settlement.specs.declared.totals.Totals.{Totals}
+use Rattle.weights.specs.Inner.By.{takesPart, weightOf, weightsBy}
+use Rattle.weights.specs.Inner.Ready.{Accepts}
+use Rattle.weights.specs.declared.gather.By.{By}
+use Rattle.weights.specs.declared.gather.By.the-variants.{Load, Area, Unread, Read, Water, Persons}
+use Rattle.weights.specs.declared.totals.Totals.{Totals}
+use Rattle.settlement.specs.Inner.Division.{Divides}
 
 pub those-all : (us : List UnitRow) → those (λ u. true) us ≡ us
 those-all [] = refl
@@ -29,10 +31,6 @@ those-all (u ∷ us) = ap (λ (r : List UnitRow). u ∷ r) (those-all us)
 -- as many shares as units
 pub counted : (f : UnitRow → ℕ) (us : List UnitRow) (out : List ℕ) {total r : ℕ} → (sum (map f us) ≡ 0 → total ≡ 0) → r ≤ length out → take r out ≡ shares total (map f us) → r ≡ length us
 counted f us out {total} {r} d h e = sym (length-take-le r out h) ∙ ap length e ∙ shares-fair total (map f us) d .as-many ∙ length-map us f
-
--- what dividing by these weights asks for
-abbrev pub Divides : Sheet → By → ℕ → Type 0
-Divides s by total = (total < 2 ^ 32 - 1) × (sum (weightsBy by s) ≡ 0 → total ≡ 0)
 
 -- every unit takes part
 abbrev All : By → Type 0
@@ -56,33 +54,54 @@ module _ {bytes : List ℕ} {n : ℕ} {t : Totals} (a : Accepts bytes n t) where
   abbrev s : Sheet
   s = sheetOf bytes
 
-  -- ---- each division over all units, and that it can be made
-  divides : (by : By) → All by → (total : ℕ) → total ≤ 4000000000 → (sum (map (weightOf by s) (s .units)) ≡ 0 → total ≡ 0) → Divides s by total
+  -- ---- each division over all units can be made
+  divides : (by : By) → All by → (total : ℕ) → total ≤ 4000000000 → (sum (map (weightOf by s) (s .units)) ≡ 0 → total ≡ 0) → Divides total (weightsBy by s)
   divides by all total h d = (omega arith, rw (of-all s by all) d)
 
-  pub load-heat : s .model ≡ 1 → Divides s Load (units-heat s)
+  pub load-heat : s .model ≡ 1 → Divides (units-heat s) (weightsBy Load s)
   load-heat m = divides Load refl (units-heat s) (units-heat-le s (a .accepted)) (λ z. absurd (omega (arith, load-positive s (a .accepted) m)))
 
-  by-area : (total : ℕ) → total ≤ 4000000000 → Divides s Area total
+  by-area : (total : ℕ) → total ≤ 4000000000 → Divides total (weightsBy Area s)
   by-area total h = divides Area refl total h (λ z. absurd (omega (arith, area-positive s (a .accepted))))
 
-  pub area-heat : Divides s Area (units-heat s)
+  pub area-heat : Divides (units-heat s) (weightsBy Area s)
   area-heat = by-area (units-heat s) (units-heat-le s (a .accepted))
 
-  pub area-common-heat : Divides s Area (common-heat s)
+  pub area-common-heat : Divides (common-heat s) (weightsBy Area s)
   area-common-heat = by-area (common-heat s) (common-heat-le s (a .accepted))
 
-  pub weighed-water : Divides s Water (waterParts wholeWh s .ofUnits)
+  pub weighed-water : Divides (waterParts wholeWh s .ofUnits) (weightsBy Water s)
   weighed-water = divides Water refl (waterParts wholeWh s .ofUnits) (units-water-le s (a .accepted)) (water-divisible s (a .accepted))
 
-  pub persons-water : Divides s Persons (waterParts wholeWh s .common)
+  pub persons-water : Divides (waterParts wholeWh s .common) (weightsBy Persons s)
   persons-water = divides Persons refl (waterParts wholeWh s .common) (common-water-le s (a .accepted)) (common-water-divisible s (a .accepted))
 
-  -- A NUMBER FOR EACH UNIT
-  pub over-units : (by : By) → All by → {total whole r : ℕ} → Divides s by whole → total ≡ whole
-      → (out : List ℕ) → length out ≡ 160 → (r ≤ n) × (take r out ≡ shares total (weightsBy by s)) → take n out ≡ shares whole (map (weightOf by s) (s .units))
-  over-units by all {total} {whole} {r} d e out l g =
-      let f : take r out ≡ shares whole (map (weightOf by s) (s .units)) = g .1 ∙ rw (e, of-all s by all) in
-      let c : r ≡ length (s .units) = counted (weightOf by s) (s .units) out (rw (of-all s by all) at (d .1)) (omega arith) f in
-      let k : r ≡ n = omega arith in
-      subst (λ (j : ℕ). take j out ≡ shares whole (map (weightOf by s) (s .units))) k f
+  -- ---- what each gives: a number for each unit
+  module _ {total r : ℕ} (out : List ℕ) (room : length out ≡ 160) where
+    over-units : (by : By) → All by → {whole : ℕ} → Divides whole (weightsBy by s) → total ≡ whole
+        → (r ≤ n) × (take r out ≡ shares total (weightsBy by s)) → take n out ≡ shares whole (map (weightOf by s) (s .units))
+    over-units by all {whole} d e g =
+        let f : take r out ≡ shares whole (map (weightOf by s) (s .units)) = g .1 ∙ rw (e, of-all s by all) in
+        let c : r ≡ length (s .units) = counted (weightOf by s) (s .units) out (rw (of-all s by all) at (d .1)) (omega arith) f in
+        let k : r ≡ n = omega arith in
+        subst (λ (j : ℕ). take j out ≡ shares whole (map (weightOf by s) (s .units))) k f
+
+    pub load-is : s .model ≡ 1 → total ≡ units-heat s → (r ≤ n) × (take r out ≡ shares total (weightsBy Load s)) → take n out ≡ heat wholeWh s
+    unfolding heat allMetered
+    load-is m e g = rw (ne-eqb (s .model) 5 (λ z. omega arith), eq-eqb (s .model) 1 m) (over-units Load refl (load-heat m) e g)
+
+    pub area-is : s .model ≡ 2 → total ≡ units-heat s → (r ≤ n) × (take r out ≡ shares total (weightsBy Area s)) → take n out ≡ heat wholeWh s
+    unfolding heat allMetered
+    area-is m e g = rw (ne-eqb (s .model) 5 (λ z. omega arith), ne-eqb (s .model) 1 (λ z. omega arith), eq-eqb (s .model) 2 m) (over-units Area refl area-heat e g)
+
+    pub common-heat-is : total ≡ common-heat s → (r ≤ n) × (take r out ≡ shares total (weightsBy Area s)) → take n out ≡ commonHeat wholeWh s
+    unfolding commonHeat
+    common-heat-is e g = over-units Area refl area-common-heat e g
+
+    pub water-is : total ≡ waterParts wholeWh s .ofUnits → (r ≤ n) × (take r out ≡ shares total (weightsBy Water s)) → take n out ≡ water wholeWh s
+    unfolding water
+    water-is e g = over-units Water refl weighed-water e g
+
+    pub common-water-is : total ≡ waterParts wholeWh s .common → (r ≤ n) × (take r out ≡ shares total (weightsBy Persons s)) → take n out ≡ commonWater wholeWh s
+    unfolding commonWater
+    common-water-is e g = over-units Persons refl persons-water e g

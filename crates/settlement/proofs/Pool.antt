@@ -17,11 +17,12 @@ use Rattle.month.proofs.Lists.{decided}
 use Rattle.month.proofs.Accepted.{read-positive}
 use Rattle.month.proofs.Divisions.{pool}
 use Rattle.month.proofs.DivisionBounds.{pool-le}
-use Rattle.settlement.specs.Inner.By.{weightsBy}
-use Rattle.settlement.specs.Inner.Ready.{Accepts}
-use Rattle.settlement.specs.declared.totals.Totals.{Totals}
-use Rattle.settlement.specs.declared.gather.By.the-variants.{Unread, Read}
-use Rattle.settlement.proofs.Dividing.{counted, Divides}
+use Rattle.weights.specs.Inner.By.{weightsBy}
+use Rattle.weights.specs.Inner.Ready.{Accepts}
+use Rattle.weights.specs.declared.totals.Totals.{Totals}
+use Rattle.weights.specs.declared.gather.By.the-variants.{Unread, Read}
+use Rattle.settlement.specs.Inner.Division.{Divides}
+use Rattle.settlement.proofs.Dividing.{counted}
 use Rattle.settlement.proofs.Order.{order, order-same}
 
 read-or-not : (us : List UnitRow) → length (those (λ u. not (isRead u)) us) + length (those isRead us) ≡ length us
@@ -56,7 +57,7 @@ module _ {bytes : List ℕ} {n : ℕ} {t : Totals} (a : Accepts bytes n t) (m : 
       pool-is : v ≡ pool s
       pool-is = cc (getD-take (k + 1) unread k 0 (omega arith))
 
-      pub pool-divides : Divides s Read v
+      pub pool-divides : Divides v (weightsBy Read s)
       unfolding weightsBy readWeights
       pool-divides = (omega (arith, pool-is, pool-le s (a .accepted)), λ z. absurd (omega (arith, read-positive s (a .accepted) m)))
 

@@ -1,5 +1,4 @@
 -- What inner functions promise each other. Nothing in here need be believed.
-pub mod Amount
-pub mod By
-pub mod Ready
-pub mod Totals
+pub mod Columns
+pub mod Division
+pub mod Heat

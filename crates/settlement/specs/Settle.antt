@@ -1,26 +1,13 @@
--- The answers of the calls that settle a sheet.
-use mathlib.Core.List.{List, _++_}
-use Prim.Native.Nat.{ℕ, _*_, _-_}
+-- The answers of the calls that settle a sheet: 1 to 12, then 13.
+use mathlib.Core.List.{List}
+use Prim.Native.Nat.{ℕ, _*_}
 use lib.Dec.{eqb}
-use lib.ListN.{length, replicate}
+use lib.ListN.{length}
 use Rattle.sheet.specs.Tests.{if_then_else_}
 use Rattle.sheet.specs.declared.refusal.Refusal.the-variants.{BufferLength}
 use Rattle.sheet.specs.declared.refusal.Outcome.{Outcome}
 use Rattle.sheet.specs.declared.refusal.Outcome.the-variants.{Accepted, Refused}
 use Rattle.month.specs.Month.{Settled, refused, settled, settledSheet}
-use Rattle.settlement.specs.declared.settling.Settlement.{Settlement}
-
--- the month in an array of 1,280 numbers, zeros after the statement; a refused sheet leaves zeros
-abbrev pub settlementOf : Settled → Settlement
-settlementOf (refused r) = record { outcome = Refused r; month = 0; count = 0; meter = 0; bill = 0; numbers = replicate 1280 0 }
-settlementOf (settled m) = record {
-  outcome = Accepted;
-  month = m .month;
-  count = m .unitCount;
-  meter = m .meter;
-  bill = m .bill;
-  numbers = m .numbers ++ replicate (1280 - 8 * m .unitCount) 0;
-}
 
 -- `settle`: 1 to 12, then 13 unless the list has 8n numbers
 abbrev pub answerOf : Settled → ℕ → Outcome

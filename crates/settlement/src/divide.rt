@@ -5,38 +5,31 @@ ghost use lib.ListN.{length, take};
 ghost use Rattle.apportion.specs.Shares.{sum, shares};
 ghost use Rattle.sheet.specs.Layout.{sheetOf};
 ghost use Rattle.month.specs.Steps.{wholeWh, splitBy};
-ghost use Rattle.settlement.specs.Inner.By.{weightsBy};
-ghost use Rattle.settlement.specs.Inner.Ready.{Accepts};
-use crate::gather::By;
-use crate::gather::gather;
-use crate::totals::Totals;
+ghost use Rattle.weights.specs.Inner.By.{weightsBy};
+ghost use Rattle.weights.specs.Inner.Ready.{Accepts};
+ghost use Rattle.settlement.specs.Inner.Division.{Divides};
+use weights::Totals;
+use weights::gather::By;
+use weights::gather::gather;
 
 // The total divided by the first m weights.
-pub(crate) fn share(total: u64, m: usize, weights: &[u64], remainders: &mut [u64], out: &mut [u32])
-    requires { ⌜ (m ≤ length (now weights)) × (m ≤ length (now remainders)) × (m ≤ length (now out)) ⌝ }
-    requires { ⌜ (total < 2 ^ 32 - 1) × (sum (take m (now weights)) < 2 ^ 62) × (sum (take m (now weights)) ≡ 0 → total ≡ 0) ⌝ }
+pub(crate) fn share(total: u64, m: usize, weights: &[u64], out: &mut [u32])
+    requires { ⌜ (m ≤ 160) × (m ≤ length (now weights)) × (m ≤ length (now out)) ⌝ }
+    requires { ⌜ Divides total (take m (now weights)) × (sum (take m (now weights)) < 2 ^ 62) ⌝ }
     ensures { λ r. ⌜ take m (now (out .exit)) ≡ shares total (take m (now (weights .entry))) ⌝ }
 {
+    let mut remainders = [0u64; 160];
     apportion::apportion(total, &weights[..m], &mut remainders[..m], &mut out[..m]);
 }
 
 // The total divided by the weights of the units that take part; returns how many they are.
-pub(crate) fn divide_by(
-    s: &[u8],
-    n: usize,
-    by: By,
-    t: Totals,
-    total: u64,
-    weights: &mut [u64],
-    remainders: &mut [u64],
-    out: &mut [u32],
-) -> usize
-    requires { ⌜ Accepts (now s) n t × (length (now out) ≡ 160) × (length (now weights) ≡ 160) × (length (now remainders) ≡ 160) ⌝ }
-    requires { ⌜ (total < 2 ^ 32 - 1) × (sum (weightsBy by (sheetOf (now s))) ≡ 0 → total ≡ 0) ⌝ }
+pub(crate) fn divide_by(s: &[u8], n: usize, by: By, t: Totals, total: u64, out: &mut [u32]) -> usize
+    requires { ⌜ Accepts (now s) n t × (length (now out) ≡ 160) × Divides total (weightsBy by (sheetOf (now s))) ⌝ }
     ensures { λ r. ⌜ (r ≤ n) × (take r (now (out .exit)) ≡ shares total (weightsBy by (sheetOf (now (s .entry))))) ⌝ }
 {
-    let m = gather(s, n, by, t, weights);
-    share(total, m, weights, remainders, out);
+    let mut weights = [0u64; 160];
+    let m = gather(s, n, by, t, &mut weights);
+    share(total, m, &weights, out);
     m
 }
 

@@ -1,28 +1,31 @@
 // Steps 2 to 5: units' heat and common heat.
 ghost use mathlib.Core.Path.{_≡_};
 ghost use mathlib.Core.Bool.{true, false};
-ghost use Prim.Native.Nat.{_+_, _<_};
+ghost use Prim.Native.Nat.{_+_, _*_, _<_};
 ghost use lib.ListN.{length, take};
 ghost use Rattle.sheet.specs.Tests.{if_then_else_};
 ghost use Rattle.sheet.specs.Layout.{sheetOf};
 ghost use Rattle.sheet.specs.Inner.Fits.{Fits};
 ghost use Rattle.month.specs.Weights.{unreadUnits, allMetered};
-ghost use Rattle.month.specs.Steps.{wholeWh, heatParts, poolShares, inUnitOrder, heat, commonHeat};
+ghost use Rattle.month.specs.Steps.{wholeWh, heatParts, poolShares, inUnitOrder, heat};
 ghost use Rattle.month.specs.Month.{hotWaterWh};
-ghost use Rattle.settlement.specs.Inner.Ready.{Accepts};
+ghost use Rattle.weights.specs.Inner.Ready.{Accepts};
+ghost use Rattle.settlement.specs.Inner.Heat.{UnitsHeat, ByReadings};
+ghost use Rattle.settlement.specs.Inner.Columns.{Written};
+use crate::columns::put_column;
 use crate::divide::Parts;
 use crate::divide::divide_by;
 use crate::divide::share;
 use crate::divide::split;
-use crate::gather::By;
-use crate::gather::gather;
-use crate::gather::one_if;
-use crate::refusals::all_metered;
-use crate::totals::Totals;
-use crate::weights::head;
-use crate::weights::wide;
 use sheet::header;
 use sheet::rows;
+use weights::Totals;
+use weights::all_metered;
+use weights::gather::By;
+use weights::gather::gather;
+use weights::gather::one_if;
+use weights::head;
+use weights::wide;
 
 // Step 2.
 fn heat_parts(s: &[u8], n: usize, t: Totals, h: u64) -> Parts
@@ -49,54 +52,15 @@ fn heat_by_meters(s: &[u8], n: usize, out: &mut [u32])
     }
 }
 
-// Step 3, model 1: by q.
-fn heat_by_load(
-    s: &[u8],
-    n: usize,
-    t: Totals,
-    total: u64,
-    weights: &mut [u64],
-    remainders: &mut [u64],
-    out: &mut [u32],
-)
-    requires { ⌜ Accepts (now s) n t × (length (now out) ≡ 160) × (sheetOf (now s) .model ≡ 1) × (total ≡ heatParts wholeWh (sheetOf (now s)) .ofUnits) × (length (now weights) ≡ 160) × (length (now remainders) ≡ 160) ⌝ }
-    ensures { λ r. ⌜ take n (now (out .exit)) ≡ heat wholeWh (sheetOf (now (s .entry))) ⌝ }
-{
-    divide_by(s, n, By::Load, t, total, weights, remainders, out);
-}
-
-// Step 3, model 2: by p.
-fn heat_by_area(
-    s: &[u8],
-    n: usize,
-    t: Totals,
-    total: u64,
-    weights: &mut [u64],
-    remainders: &mut [u64],
-    out: &mut [u32],
-)
-    requires { ⌜ Accepts (now s) n t × (length (now out) ≡ 160) × (sheetOf (now s) .model ≡ 2) × (total ≡ heatParts wholeWh (sheetOf (now s)) .ofUnits) × (length (now weights) ≡ 160) × (length (now remainders) ≡ 160) ⌝ }
-    ensures { λ r. ⌜ take n (now (out .exit)) ≡ heat wholeWh (sheetOf (now (s .entry))) ⌝ }
-{
-    divide_by(s, n, By::Area, t, total, weights, remainders, out);
-}
-
 // Step 3, models 3 to 5: the units not read, last the metered pool; returns how many are not read.
-fn pool_shares(
-    s: &[u8],
-    n: usize,
-    t: Totals,
-    total: u64,
-    weights: &mut [u64],
-    remainders: &mut [u64],
-    out: &mut [u32],
-) -> usize
-    requires { ⌜ Accepts (now s) n t × (length (now out) ≡ 160) × (2 < sheetOf (now s) .model) × (allMetered (sheetOf (now s)) ≡ false) × (total ≡ heatParts wholeWh (sheetOf (now s)) .ofUnits) × (length (now weights) ≡ 160) × (length (now remainders) ≡ 160) ⌝ }
+fn pool_shares(s: &[u8], n: usize, t: Totals, total: u64, out: &mut [u32]) -> usize
+    requires { ⌜ ByReadings (now s) n t total (now out) ⌝ }
     ensures { λ r. ⌜ (r < 160) × (r ≡ length (unreadUnits (sheetOf (now (s .entry))))) × (take (r + 1) (now (out .exit)) ≡ poolShares wholeWh (sheetOf (now (s .entry)))) ⌝ }
 {
-    let m = gather(s, n, By::Unread, t, weights);
+    let mut weights = [0u64; 160];
+    let m = gather(s, n, By::Unread, t, &mut weights);
     weights[m] = 10000 * t.area - t.unread;
-    share(total, m + 1, weights, remainders, out);
+    share(total, m + 1, &weights, out);
     m
 }
 
@@ -122,37 +86,21 @@ fn merge(s: &[u8], n: usize, unread: &[u32], read: &[u32], out: &mut [u32])
 }
 
 // Steps 3 and 4, models 3 to 5.
-fn heat_by_readings(
-    s: &[u8],
-    n: usize,
-    t: Totals,
-    total: u64,
-    weights: &mut [u64],
-    remainders: &mut [u64],
-    out: &mut [u32],
-)
-    requires { ⌜ Accepts (now s) n t × (length (now out) ≡ 160) × (2 < sheetOf (now s) .model) × (allMetered (sheetOf (now s)) ≡ false) × (total ≡ heatParts wholeWh (sheetOf (now s)) .ofUnits) × (length (now weights) ≡ 160) × (length (now remainders) ≡ 160) ⌝ }
+fn heat_by_readings(s: &[u8], n: usize, t: Totals, total: u64, out: &mut [u32])
+    requires { ⌜ ByReadings (now s) n t total (now out) ⌝ }
     ensures { λ r. ⌜ take n (now (out .exit)) ≡ heat wholeWh (sheetOf (now (s .entry))) ⌝ }
 {
     let mut unread = [0u32; 160];
     let mut read = [0u32; 160];
-    let m = pool_shares(s, n, t, total, weights, remainders, &mut unread);
+    let m = pool_shares(s, n, t, total, &mut unread);
     let pool = wide(unread[m]);
-    divide_by(s, n, By::Read, t, pool, weights, remainders, &mut read);
+    divide_by(s, n, By::Read, t, pool, &mut read);
     merge(s, n, &unread, &read, out);
 }
 
-// Each unit's heat.
-fn unit_heat(
-    s: &[u8],
-    n: usize,
-    t: Totals,
-    total: u64,
-    weights: &mut [u64],
-    remainders: &mut [u64],
-    out: &mut [u32],
-)
-    requires { ⌜ Accepts (now s) n t × (length (now out) ≡ 160) × (total ≡ heatParts wholeWh (sheetOf (now s)) .ofUnits) × (length (now weights) ≡ 160) × (length (now remainders) ≡ 160) ⌝ }
+// Each unit's heat: by its meter, by q, by p, or by steps 3 and 4.
+fn unit_heat(s: &[u8], n: usize, t: Totals, total: u64, out: &mut [u32])
+    requires { ⌜ UnitsHeat (now s) n t total (now out) ⌝ }
     ensures { λ r. ⌜ take n (now (out .exit)) ≡ heat wholeWh (sheetOf (now (s .entry))) ⌝ }
 {
     if all_metered(s, n, t) {
@@ -161,47 +109,26 @@ fn unit_heat(
     }
     let model = head(s, header::MODEL);
     if model == 1 {
-        heat_by_load(s, n, t, total, weights, remainders, out);
+        divide_by(s, n, By::Load, t, total, out);
         return;
     }
     if model == 2 {
-        heat_by_area(s, n, t, total, weights, remainders, out);
+        divide_by(s, n, By::Area, t, total, out);
         return;
     }
-    heat_by_readings(s, n, t, total, weights, remainders, out);
-}
-
-// Step 5: by p.
-fn common_heat(
-    s: &[u8],
-    n: usize,
-    t: Totals,
-    total: u64,
-    weights: &mut [u64],
-    remainders: &mut [u64],
-    out: &mut [u32],
-)
-    requires { ⌜ Accepts (now s) n t × (length (now out) ≡ 160) × (total ≡ heatParts wholeWh (sheetOf (now s)) .common) × (length (now weights) ≡ 160) × (length (now remainders) ≡ 160) ⌝ }
-    ensures { λ r. ⌜ take n (now (out .exit)) ≡ commonHeat wholeWh (sheetOf (now (s .entry))) ⌝ }
-{
-    divide_by(s, n, By::Area, t, total, weights, remainders, out);
+    heat_by_readings(s, n, t, total, out);
 }
 
 // Steps 2 to 5.
-pub(crate) fn write_heat(
-    s: &[u8],
-    n: usize,
-    t: Totals,
-    h: u64,
-    weights: &mut [u64],
-    remainders: &mut [u64],
-    units: &mut [u32],
-    common: &mut [u32],
-)
-    requires { ⌜ Accepts (now s) n t × (h ≡ hotWaterWh (sheetOf (now s))) × (length (now units) ≡ 160) × (length (now common) ≡ 160) × (length (now weights) ≡ 160) × (length (now remainders) ≡ 160) ⌝ }
-    ensures { λ r. ⌜ (take n (now (units .exit)) ≡ heat wholeWh (sheetOf (now (s .entry)))) × (take n (now (common .exit)) ≡ commonHeat wholeWh (sheetOf (now (s .entry)))) ⌝ }
+pub(crate) fn write_heat(s: &[u8], n: usize, t: Totals, h: u64, statement: &mut [u32])
+    requires { ⌜ Accepts (now s) n t × (h ≡ hotWaterWh (sheetOf (now s))) × (length (now statement) ≡ 8 * n) ⌝ }
+    ensures { λ r. ⌜ Written 2 (sheetOf (now (s .entry))) (now (statement .exit)) ⌝ }
 {
+    let mut units = [0u32; 160];
+    let mut common = [0u32; 160];
     let parts = heat_parts(s, n, t, h);
-    unit_heat(s, n, t, parts.units, weights, remainders, units);
-    common_heat(s, n, t, parts.common, weights, remainders, common);
+    unit_heat(s, n, t, parts.units, &mut units);
+    divide_by(s, n, By::Area, t, parts.common, &mut common);
+    put_column(0, n, &units, statement);
+    put_column(1, n, &common, statement);
 }

@@ -1,18 +1,11 @@
-// One building month settled (document 01, "Steps of a month"): the code of what crate `month` defines.
+// One building month settled (document 01, "Steps of a month"): the divisions, the bill and the statement that crate `month` defines.
 mod bill;
+mod columns;
 mod divide;
-mod gather;
 mod heat;
-mod hot_water;
-mod refusals;
 mod settling;
-mod totals;
 mod water;
-mod weights;
 
 pub use bill::bill_cents;
-pub use settling::Settlement;
 pub use settling::settle;
 pub use settling::settle_checked;
-pub use settling::settle_sheet;
-pub use settling::settled_checked;

@@ -9,7 +9,7 @@ use lib.ListN.{length, take, length-set}
 use lib.Seq.{take-all}
 use Rattle.sheet.specs.Layout.{UnitRow, sheetOf}
 use Rattle.month.specs.Steps.{heat}
-use Rattle.settlement.proofs.Rows.{chosen, turn-row}
+use Rattle.weights.proofs.Rows.{chosen, turn-row}
 use Rattle.settlement.proofs.Dividing.{those-all}
 use Rattle.settlement.proofs.heat.heat_by_meters.Statement.{statement}
 use Rattle.settlement.proofs.heat.heat_by_meters.Tie as tie

@@ -1,7 +1,8 @@
 -- Step 3 over the units not read and the pool, step 4 over the read ones, and both back in the order of the units.
+use mathlib.Core.Path.{refl}
 use native.Mathlib.Omega.{arith}
-use borrow.Author.Needs.{needs}
 use Rattle.settlement.proofs.Pool.{pool-divides, heat-is}
+use borrow.Author.Needs.{needs}
 use Rattle.settlement.proofs.heat.heat_by_readings.Statement.{statement}
 use Rattle.settlement.proofs.heat.heat_by_readings.Tie as tie
 
@@ -25,9 +26,9 @@ slice-aggregate-divide-by c = search needs
 
 divide-by-requires : tie.Need-divide-by-requires
 divide-by-requires c κs =
-    let p = c .before .before .before .before .before .before .before .before .before .before .before .before .before .before .before .before .before .pre in
-    let f = c .before .before .before .before .before .before .before .before .before .pool-shares in
-    ((p .0, omega (arith, f .kept), omega (arith, f .kept), omega (arith, f .kept)), pool-divides (p .0) (p .2) (p .3) (f .last .1 .1 .1 .1 .1 .1 .0) (f .ensures .1) (f .ensures .2) (c .before .before .before .wide .ensures))
+    let p = c .before .before .before .before .before .before .before .pre in
+    let f = c .before .before .before .pool-shares in
+    (p .asked .accepts, refl, pool-divides (p .asked .accepts) (p .model) (p .unmetered) (f .last .1 .1 .1 .1 .0) (f .ensures .1) (f .ensures .2) (c .before .wide .ensures))
 
 slice-aggregate-merge : tie.Need-slice-aggregate-merge
 slice-aggregate-merge c = search needs
@@ -41,19 +42,13 @@ merge-requires c κs = search needs
 same-length : tie.Need-same-length
 same-length c = search needs
 
-same-length-2 : tie.Need-same-length-2
-same-length-2 c = search needs
-
-same-length-3 : tie.Need-same-length-3
-same-length-3 c = search needs
-
 returns : tie.Need-returns
 returns c =
-    let p = c .before .before .before .before .before .before .before .before .before .before .before .before .before .before .before .before .before .before .before .before .before .before .before .before .before .before .before .before .before .pre in
-    let f = c .before .before .before .before .before .before .before .before .before .before .before .before .before .before .before .before .before .before .before .before .before .pool-shares in
-    let d = c .before .before .before .before .before .before .before .before .before .before .before .divide-by in
-    heat-is (p .0) (p .2) (p .3) (f .last .1 .1 .1 .1 .1 .1 .0) (f .ensures .1) (f .ensures .2) (c .before .before .before .before .before .before .before .before .before .before .before .before .before .before .before .wide .ensures)
-    (d .last .1 .1 .1 .1 .1 .1 .1 .0) (omega (arith, d .kept)) (d .ensures) (c .before .before .merge .ensures)
+    let p = c .before .before .before .before .before .before .before .before .before .before .before .before .before .before .before .pre in
+    let f = c .before .before .before .before .before .before .before .before .before .before .before .pool-shares in
+    let d = c .before .before .before .before .before .before .before .divide-by in
+    heat-is (p .asked .accepts) (p .model) (p .unmetered) (f .last .1 .1 .1 .1 .0) (f .ensures .1) (f .ensures .2) (c .before .before .before .before .before .before .before .before .before .wide .ensures)
+    (d .last .1 .1 .1 .1 .1 .0) (omega (arith, d .kept)) (d .ensures) (c .before .before .merge .ensures)
 
 pub heat-by-readings-spec : {M : Type 1} → statement M
 heat-by-readings-spec =
@@ -70,6 +65,4 @@ heat-by-readings-spec =
     slice-aggregate-merge-2
     merge-requires
     same-length
-    same-length-2
-    same-length-3
     returns)

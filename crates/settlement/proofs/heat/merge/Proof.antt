@@ -10,7 +10,7 @@ use lib.ListN.{length, take, drop, length-set}
 use Rattle.sheet.specs.Layout.{sheetOf}
 use Rattle.sheet.specs.Inner.Fields.{unitOf}
 use Rattle.sheet.proofs.Units.{units-from}
-use Rattle.settlement.proofs.Rows.{bit-le}
+use Rattle.weights.proofs.Rows.{bit-le}
 use Rattle.settlement.proofs.Order.{order, turn-order, order-end}
 use Rattle.settlement.proofs.heat.merge.Statement.{statement}
 use Rattle.settlement.proofs.heat.merge.Tie as tie

@@ -1,6 +1,7 @@
--- One function for each of the four ways.
+-- One way of four.
 use mathlib.Core.Path.{sym, _∙_}
 use native.Mathlib.Omega.{arith}
+use Rattle.settlement.proofs.Dividing.{load-heat, area-heat, load-is, area-is}
 use borrow.Author.Needs.{needs}
 use Rattle.settlement.proofs.heat.unit_heat.Statement.{statement}
 use Rattle.settlement.proofs.heat.unit_heat.Tie as tie
@@ -9,9 +10,7 @@ all-metered-requires : tie.Need-all-metered-requires
 all-metered-requires c κs = search needs
 
 heat-by-meters-requires : tie.Need-heat-by-meters-requires
-heat-by-meters-requires c κs =
-    let p = c .before .before .before .before .before .before .before .pre in
-    (p .0 .ready .fits, p .0 .count, p .1, sym (c .before .before .all-metered .ensures) ∙ c .before .if1 .taken)
+heat-by-meters-requires c κs = let p = c .before .before .before .before .before .pre in (p .accepts .ready .fits, p .accepts .count, p .room, sym (c .before .before .all-metered .ensures) ∙ c .before .if1 .taken)
 
 same-length : tie.Need-same-length
 same-length c = search needs
@@ -22,49 +21,29 @@ returns c = search needs
 head-requires : tie.Need-head-requires
 head-requires c κs = search needs
 
-heat-by-load-requires : tie.Need-heat-by-load-requires
-heat-by-load-requires c κs = let p = c .before .before .before .before .before .before .before .before .before .before .before .pre in (p .0, p .1, omega arith, p .2, p .3, p .4)
+divide-by-requires : tie.Need-divide-by-requires
+divide-by-requires c κs = let p = c .before .before .before .before .before .before .before .pre in (p .accepts, p .room, rw (p .total-is) (load-heat (p .accepts) (omega arith)))
 
 same-length-2 : tie.Need-same-length-2
 same-length-2 c = search needs
 
+returns-2 : tie.Need-returns-2
+returns-2 c = let p = c .before .before .before .before .before .before .before .before .before .before .pre in let d = c .before .before .divide-by in load-is (p .accepts) (d .last .1 .1 .1 .1 .1 .0) (omega (arith, d .kept, p .room)) (omega arith) (p .total-is) (d .ensures)
+
+divide-by-requires-2 : tie.Need-divide-by-requires-2
+divide-by-requires-2 c κs = let p = c .before .before .before .before .before .before .before .before .pre in (p .accepts, p .room, rw (p .total-is) (area-heat (p .accepts)))
+
 same-length-3 : tie.Need-same-length-3
 same-length-3 c = search needs
 
-same-length-4 : tie.Need-same-length-4
-same-length-4 c = search needs
-
-returns-2 : tie.Need-returns-2
-returns-2 c = search needs
-
-heat-by-area-requires : tie.Need-heat-by-area-requires
-heat-by-area-requires c κs = let p = c .before .before .before .before .before .before .before .before .before .before .before .before .pre in (p .0, p .1, omega arith, p .2, p .3, p .4)
-
-same-length-5 : tie.Need-same-length-5
-same-length-5 c = search needs
-
-same-length-6 : tie.Need-same-length-6
-same-length-6 c = search needs
-
-same-length-7 : tie.Need-same-length-7
-same-length-7 c = search needs
-
 returns-3 : tie.Need-returns-3
-returns-3 c = search needs
+returns-3 c = let p = c .before .before .before .before .before .before .before .before .before .before .before .pre in let d = c .before .before .divide-by2 in area-is (p .accepts) (d .last .1 .1 .1 .1 .1 .0) (omega (arith, d .kept, p .room)) (omega arith) (p .total-is) (d .ensures)
 
 heat-by-readings-requires : tie.Need-heat-by-readings-requires
-heat-by-readings-requires c κs =
-    let p = c .before .before .before .before .before .before .before .before .before .before .before .before .pre in
-    (p .0, p .1, omega arith, sym (c .before .before .before .before .before .before .before .all-metered .ensures) ∙ c .before .before .before .before .before .before .if1 .left, p .2, p .3, p .4)
+heat-by-readings-requires c κs = let p = c .before .before .before .before .before .before .before .before .pre in record { asked = p; model = omega (arith, p .accepts .accepted .checked-sheet .header .modelLow); unmetered = sym (c .before .before .before .before .before .all-metered .ensures) ∙ c .before .before .before .before .if1 .left }
 
-same-length-8 : tie.Need-same-length-8
-same-length-8 c = search needs
-
-same-length-9 : tie.Need-same-length-9
-same-length-9 c = search needs
-
-same-length-10 : tie.Need-same-length-10
-same-length-10 c = search needs
+same-length-4 : tie.Need-same-length-4
+same-length-4 c = search needs
 
 returns-4 : tie.Need-returns-4
 returns-4 c = search needs
@@ -78,18 +57,12 @@ unit-heat-spec =
     same-length
     returns
     head-requires
-    heat-by-load-requires
+    divide-by-requires
     same-length-2
-    same-length-3
-    same-length-4
     returns-2
-    heat-by-area-requires
-    same-length-5
-    same-length-6
-    same-length-7
+    divide-by-requires-2
+    same-length-3
     returns-3
     heat-by-readings-requires
-    same-length-8
-    same-length-9
-    same-length-10
+    same-length-4
     returns-4)

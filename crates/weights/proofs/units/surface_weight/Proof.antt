@@ -1,0 +1,56 @@
+-- `surface_weight` meets its contract: every factor is in range.
+use Prim.Native.Nat.{_≤_}
+use native.Mathlib.Omega.{arith}
+use Rattle.month.specs.Weights.{surfaceWeight}
+use Rattle.weights.proofs.Rows.{unit-fits, two-le}
+use borrow.Author.Needs.{needs}
+use Rattle.weights.proofs.units.surface_weight.Statement.{statement}
+use Rattle.weights.proofs.units.surface_weight.Tie as tie
+
+head-requires : tie.Need-head-requires
+head-requires c κs = search needs
+
+field-requires : tie.Need-field-requires
+field-requires c κs = search needs
+
+field-requires-2 : tie.Need-field-requires-2
+field-requires-2 c κs = search needs
+
+mixed-requires : tie.Need-mixed-requires
+mixed-requires c κs =
+    let st = c .before .before .before .before in
+    let u = unit-fits (st .pre .0) in
+    let t = st .pre .1 in (
+      omega (arith, c .before .before .head .ensures, t .fits .header .basePercentHigh),
+      omega (arith, c .field2 .ensures, u .impulses (st .pre .2)),
+      t .within .surface,
+      omega (arith, c .before .field .ensures, u .riserSurface),
+      t .totals .impulses (st .pre .2),
+    )
+
+field-requires-3 : tie.Need-field-requires-3
+field-requires-3 c κs = search needs
+
+mul-result : tie.Need-mul-result
+mul-result c =
+    let k : c .field3 .result ≤ 1000 = omega (arith, c .field3 .ensures, unit-fits (c .before .before .before .before .before .before .pre .0) .locationFactor) in
+    omega (arith, two-le (c .before .mixed .ensures .1) k)
+
+returns : tie.Need-returns
+unfolding surfaceWeight
+returns c =
+    let st = c .before .before .before .before .before .before in
+    let t = st .pre .1 .totals in
+    rw (c .before .mixed .ensures .0, c .field3 .ensures, c .before .before .field2 .ensures, c .before .before .before .field .ensures, c .before .before .before .before .head .ensures, t .surface, t .readings)
+
+pub surface-weight-spec : {M : Type 1} → statement M
+surface-weight-spec =
+    tie.close
+    (tie.spec
+    head-requires
+    field-requires
+    field-requires-2
+    mixed-requires
+    field-requires-3
+    mul-result
+    returns)

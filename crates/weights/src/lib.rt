@@ -1,0 +1,14 @@
+// What the steps of a month take from the sheet (document 01, "Steps of a month"): sums, hot water, weights, and refusals 8 to 12.
+mod fields;
+pub mod gather;
+pub mod hot_water;
+mod refusals;
+mod totals;
+mod units;
+
+pub use fields::head;
+pub use fields::wide;
+pub use refusals::all_metered;
+pub use refusals::refusal;
+pub use totals::Totals;
+pub use totals::sum_rows;
