@@ -1,4 +1,4 @@
--- The bounds of specs/Bounds.antt, for a sheet that passes 1 to 7. Assumes nothing.
+-- The bounds of specs/Inner/Bounds.antt, for a sheet that passes 1 to 7. Assumes nothing.
 use mathlib.Core.Path.{_≡_}
 use mathlib.Core.Bool.{Bool, not, _||_}
 use mathlib.Core.Logic.{inl, inr}
@@ -10,14 +10,13 @@ use borrow.Author.Tests.{eqb-true}
 use lib.Dec.{eqb}
 use lib.ListN.{length, getD}
 use Rattle.apportion.specs.Shares.{sum}
-use Rattle.sheet.specs.Layout.{UnitRow, Sheet, waterReading}
+use Rattle.sheet.specs.Layout.{UnitRow, Sheet}
 use Rattle.sheet.specs.Inner.Fits.{UnitFits}
 use Rattle.sheet.specs.Tests.{Each}
 use Rattle.month.specs.Weights.{those, sumOf, isRead, meteredSum, totalArea, unreadWeight, unreadWeights, poolWeight, readingSum, readArea, readSurface, limited, areaWeight, surfaceWeight, readWeight, readWeights, unitsOfClass, litresOfClass1, personsOfClass2, waterWeight, commonWaterWeight}
-use Rattle.month.specs.Steps.{hotWater}
-use Rattle.month.specs.Month.{hotWaterWh, billCents}
+use Rattle.month.specs.Month.{billCents}
 use Rattle.month.specs.Inner.Accepted.{CheckedSheet}
-use Rattle.month.specs.Inner.Bounds.{SumBounds, UnitBounds, WeightBounds}
+use Rattle.month.specs.Inner.Bounds.{SumBounds, WeightBounds}
 use Rattle.month.proofs.Lists.{decided, sum-append}
 use Rattle.month.proofs.Accepted.{each-those}
 
@@ -56,46 +55,23 @@ module _ (s : Sheet) (c : CheckedSheet s) where
   common-water-le : (u : UnitRow) → UnitFits s u → commonWaterWeight u ≤ 50
   common-water-le u h = elim (decided (eqb (u .waterClass) 1 || eqb (u .waterClass) 2)) [ inl e ↦ rw e (h .persons) | inr e ↦ rw e (omega arith) ]
 
-  litres-heated : s .waterSource ≡ 2 → (100 + s .lossFactor) * 54 * waterReading s 0 ≤ 324000000000
-  litres-heated e =
-      let t : (100 + s .lossFactor) * 54 ≤ 16200 = omega (arith, c .header .lossFactorHigh) in
-      mul-le-mul t (c .header .waterLitres e)
-
-  summer-readings : sum (s .waterReadings) ≤ 24000000000
-  summer-readings = sum-of-readings 6 4000000000 (s .waterReadings) (c .reading-count) (c .header .waterReadings)
-
-  hot-water : hotWaterWh s ≤ 4600000000
-  unfolding hotWaterWh hotWater
-  hot-water = elim (decided (eqb (s .waterSource) 0)) [
-    | inl p ↦ rw p (omega arith)
-    | inr p ↦ elim (decided (eqb (s .waterSource) 1)) [
-      | inl q ↦ rw (p, q) (omega (arith, c .header .waterReadings 0 (omega arith)))
-      | inr q ↦ elim (decided (eqb (s .waterSource) 2)) [
-        | inl r ↦ rw (p, q, r) (omega (arith, litres-heated (eqb-true (s .waterSource) 2 r)))
-        | inr r ↦ rw (p, q, r) (omega (arith, summer-readings))
-      ]
-    ]
-  ]
-
   pub sum-bounds : SumBounds s
-  unfolding totalArea readArea readSurface readingSum meteredSum unitsOfClass litresOfClass1 personsOfClass2 billCents
+  unfolding totalArea readSurface readingSum meteredSum unitsOfClass litresOfClass1 personsOfClass2 billCents
   sum-bounds =
+      let loss : (100 + s .lossFactor) * 54 ≤ 16200 = omega (arith, c .header .lossFactorHigh) in
       let product : s .sharedMeter * s .price ≤ 400000000000000 = mul-le-mul (c .header .sharedMeter) (c .header .price) in
       record {
         total-area = over-all (λ u. u .heatedArea) 10000 (λ u h. h .heatedArea);
         heat-loads = over-all (λ u. u .heatLoad) 100000 (λ u h. h .heatLoad);
-        read-area = over-those isRead (λ u. u .heatedArea) 10000 (λ u h. h .heatedArea);
         read-surface = over-those isRead (λ u. u .riserSurface) 10000 (λ u h. h .riserSurface);
-        readings = over-those isRead (λ u. u .reading) 25000000 (λ u h. h .reading);
         impulses = λ m. over-those isRead (λ u. u .reading) 50000 (λ u h. h .impulses m);
         metered = over-all (λ u. u .reading) 25000000 (λ u h. h .reading);
         classes = λ k. omega (arith, those-fewer (λ u. eqb (u .waterClass) k) (s .units), few);
         litres = over-those (λ u. eqb (u .waterClass) 1) (λ u. u .litres) 1000000 (λ u h. h .litres);
         persons-of-class-2 = over-those (λ u. eqb (u .waterClass) 2) (λ u. u .persons) 50 (λ u h. h .persons);
         persons = over-all commonWaterWeight 50 common-water-le;
-        litres-heated = litres-heated;
-        summer-readings = summer-readings;
-        hot-water = hot-water;
+        litres-heated = λ e. mul-le-mul loss (c .header .waterLitres e);
+        summer-readings = sum-of-readings 6 4000000000 (s .waterReadings) (c .reading-count) (c .header .waterReadings);
         price-product = product;
         bill = omega arith;
       }
@@ -164,22 +140,6 @@ module _ (s : Sheet) (c : CheckedSheet s) where
         | inr g ↦ rw (e, g) (omega arith)
       ]
     ]
-
-    pub unit-bounds : UnitBounds s u
-    unit-bounds = record {
-      unread = unread-le;
-      reading-by-area = λ m. three-le rest-percent (h .impulses m) (sum-bounds .read-area);
-      area-by-readings = λ m. three-le (c .header .basePercentHigh) (h .heatedArea) (sum-bounds .impulses m);
-      base = base-le;
-      area-weight = area-weight-le;
-      reading-by-surface = reading-by-surface;
-      surface-by-readings = surface-by-readings;
-      surface-weight = surface-weight-le;
-      read = read-le;
-      by-litres = by-litres;
-      by-persons = by-persons;
-      water = water-le;
-    }
 
   pub weight-bounds : WeightBounds s
   unfolding unreadWeights readWeights poolWeight
