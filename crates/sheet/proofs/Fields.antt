@@ -1,13 +1,14 @@
 -- Where the fields stand: what the reads of header and rows by a field's number use. Assumes nothing.
-use mathlib.Core.Path.{_≡_, refl, sym, ap, subst}
+use mathlib.Core.Path.{_≡_, refl, sym, ap, subst, _∙_}
 use mathlib.Core.Bool.{Bool}
 use mathlib.Core.List.{List, [], _∷_}
 use Prim.Native.Nat.{ℕ, zero, suc, _+_, _*_, _-_, _≤_, _<_}
 use native.Mathlib.Omega.{arith}
 use borrow.Author.Tests.{le-leb, lt-leb}
-use lib.ListN.{length, take}
+use lib.ListN.{length, take, drop}
+use lib.Seq.{getD-take, getD-drop}
 use Rattle.sheet.specs.Tests.{if_then_else_}
-use Rattle.sheet.specs.Layout.{sheetOf, byte, le16, le32}
+use Rattle.sheet.specs.Layout.{unitRow, sheetOf, byte, le16, le32}
 use Rattle.sheet.specs.Inner.Fields.{unitRowAt, rowField, headerField, fieldAt}
 
 -- ---- a fact of each of the n numbers from a on
@@ -24,26 +25,39 @@ module _ (P : ℕ → Type 0) where
   in-span : (a n k : ℕ) → Span P a n → a ≤ k → k < a + n → P k
   in-span a n k s l h = let e : a + (k - a) ≡ k = omega arith in subst P e (span-at a n (k - a) s (omega arith))
 
--- ---- a row's fields
-module _ (bytes : List ℕ) (at k : ℕ) where
-  pub row-byte : 1 ≤ k → k < 3 → byte bytes (at + (3 + k)) ≡ rowField (unitRowAt bytes at) k
-  unfolding unitRowAt
-  row-byte l h = in-span (λ (k : ℕ). byte bytes (at + (3 + k)) ≡ rowField (unitRowAt bytes at) k) 1 2 k (refl, (refl, tt)) l h
+-- ---- a row's fields, of the 32 bytes from `at` on
+module _ (bytes : List ℕ) (at : ℕ) where
+  abbrev row : List ℕ
+  row = take 32 (drop at bytes)
 
-  pub row-le32 : 4 ≤ k → k < 9 → le32 bytes (at + 4 * (k - 2)) ≡ rowField (unitRowAt bytes at) k
-  unfolding unitRowAt
-  row-le32 l h = in-span (λ (k : ℕ). le32 bytes (at + 4 * (k - 2)) ≡ rowField (unitRowAt bytes at) k) 4 5 k (refl, (refl, (refl, (refl, (refl, tt))))) l h
+  byte-cut : (m k : ℕ) → m ≡ at + k → k < 32 → byte bytes m ≡ byte row k
+  byte-cut m k e h = ap (byte bytes) e ∙ sym (getD-take 32 (drop at bytes) k 0 h ∙ getD-drop at bytes k 0)
 
-  pub row-le16 : 9 ≤ k → k < 11 → le16 bytes (at + (10 + 2 * k)) ≡ rowField (unitRowAt bytes at) k
-  unfolding unitRowAt
-  row-le16 l h = in-span (λ (k : ℕ). le16 bytes (at + (10 + 2 * k)) ≡ rowField (unitRowAt bytes at) k) 9 2 k (refl, (refl, tt)) l h
+  pub le16-cut : (m k : ℕ) → m ≡ at + k → k + 1 < 32 → le16 bytes m ≡ le16 row k
+  le16-cut m k e h = omega (arith, byte-cut m k e (omega arith), byte-cut (m + 1) (k + 1) (omega arith) h)
 
-  -- a row that is wholly inside, and one that is not
-  pub inside : at + 32 ≤ length bytes → fieldAt bytes at k ≡ rowField (unitRowAt bytes at) k
-  inside h = ap (λ (t : Bool). if t then rowField (unitRowAt bytes at) k else 0) (le-leb _ _ h)
+  pub le32-cut : (m k : ℕ) → m ≡ at + k → k + 3 < 32 → le32 bytes m ≡ le32 row k
+  le32-cut m k e h = omega (arith, le16-cut m k e (omega arith), byte-cut (m + 2) (k + 2) (omega arith) (omega arith), byte-cut (m + 3) (k + 3) (omega arith) h)
 
-  pub outside : length bytes < at + 32 → 0 ≡ fieldAt bytes at k
-  outside h = sym (ap (λ (t : Bool). if t then rowField (unitRowAt bytes at) k else 0) (lt-leb _ _ h))
+  module _ (k : ℕ) where
+    pub row-byte : 1 ≤ k → k < 3 → byte bytes (at + (3 + k)) ≡ rowField (unitRowAt bytes at) k
+    unfolding unitRow
+    row-byte l h = byte-cut _ (3 + k) refl (omega arith) ∙ in-span (λ (k : ℕ). byte row (3 + k) ≡ rowField (unitRow row) k) 1 2 k (refl, (refl, tt)) l h
+
+    pub row-le32 : 4 ≤ k → k < 9 → le32 bytes (at + 4 * (k - 2)) ≡ rowField (unitRowAt bytes at) k
+    unfolding unitRow
+    row-le32 l h = le32-cut _ (4 * (k - 2)) refl (omega arith) ∙ in-span (λ (k : ℕ). le32 row (4 * (k - 2)) ≡ rowField (unitRow row) k) 4 5 k (refl, (refl, (refl, (refl, (refl, tt))))) l h
+
+    pub row-le16 : 9 ≤ k → k < 11 → le16 bytes (at + (10 + 2 * k)) ≡ rowField (unitRowAt bytes at) k
+    unfolding unitRow
+    row-le16 l h = le16-cut _ (10 + 2 * k) refl (omega arith) ∙ in-span (λ (k : ℕ). le16 row (10 + 2 * k) ≡ rowField (unitRow row) k) 9 2 k (refl, (refl, tt)) l h
+
+    -- a row that is wholly inside, and one that is not
+    pub inside : at + 32 ≤ length bytes → fieldAt bytes at k ≡ rowField (unitRowAt bytes at) k
+    inside h = ap (λ (t : Bool). if t then rowField (unitRowAt bytes at) k else 0) (le-leb _ _ h)
+
+    pub outside : length bytes < at + 32 → 0 ≡ fieldAt bytes at k
+    outside h = sym (ap (λ (t : Bool). if t then rowField (unitRowAt bytes at) k else 0) (lt-leb _ _ h))
 
 -- ---- the header's fields
 module _ (bytes : List ℕ) (k : ℕ) where

@@ -1,46 +1,15 @@
 -- Where a unit stands in the sheet's bytes, and that bytes behind the units do not count. Assumes nothing.
-use mathlib.Core.Path.{_≡_, refl, sym, ap, ap₂, _∙_}
+use mathlib.Core.Path.{_≡_, refl, ap, ap₂, _∙_}
 use mathlib.Core.List.{List, [], _∷_, _++_, map}
 use Prim.Native.Nat.{ℕ, zero, suc, _+_, _*_, _≤_, _<_}
 use native.Mathlib.Omega.{arith}
 use native.Mathlib.Numerals.{add-one}
 use lib.ListN.{length, getD, take, drop, length-map, length-drop, List·getD-append, List·getD-map}
-use lib.Seq.{getD-take, getD-drop, drop-drop, drop-cons, take-suc, take-append-le, drop-append-le}
+use lib.Seq.{drop-drop, drop-cons, take-suc, take-append-le, drop-append-le}
 use Rattle.sheet.specs.Layout.{unitRow, rows, sheetOf, byte, le16, le32}
 use Rattle.sheet.specs.Inner.Fields.{unitRowAt, unitOf}
 
--- ---- the 32 bytes from `at` on, cut out
-module _ (bytes : List ℕ) (at : ℕ) where
-  cut : List ℕ
-  cut = take 32 (drop at bytes)
-
-  byte-cut : (k m : ℕ) → k < 32 → m ≡ at + k → byte cut k ≡ byte bytes m
-  unfolding cut
-  byte-cut k m h e = getD-take 32 (drop at bytes) k 0 h ∙ getD-drop at bytes k 0 ∙ ap (λ (i : ℕ). getD bytes i 0) (sym e)
-
-  le16-cut : (k m : ℕ) → k + 1 < 32 → m ≡ at + k → le16 cut k ≡ le16 bytes m
-  le16-cut k m h e = omega (arith, byte-cut k m (omega arith) e, byte-cut (k + 1) (m + 1) h (omega arith))
-
-  le32-cut : (k m : ℕ) → k + 3 < 32 → m ≡ at + k → le32 cut k ≡ le32 bytes m
-  le32-cut k m h e =
-      omega (arith, le16-cut k m (omega arith) e, byte-cut (k + 2) (m + 2) (omega arith) (omega arith), byte-cut (k + 3) (m + 3) h (omega arith))
-
-  row-cut : unitRow (take 32 (drop at bytes)) ≡ unitRowAt bytes at
-  unfolding unitRow unitRowAt cut
-  row-cut = λ i. record {
-    id = le32-cut 0 at (omega arith) (omega arith) i;
-    status = byte-cut 4 (at + 4) (omega arith) refl i;
-    waterClass = byte-cut 5 (at + 5) (omega arith) refl i;
-    locationFactor = le16-cut 6 (at + 6) (omega arith) refl i;
-    heatedArea = le32-cut 8 (at + 8) (omega arith) refl i;
-    riserSurface = le32-cut 12 (at + 12) (omega arith) refl i;
-    heatLoad = le32-cut 16 (at + 16) (omega arith) refl i;
-    reading = le32-cut 20 (at + 20) (omega arith) refl i;
-    litres = le32-cut 24 (at + 24) (omega arith) refl i;
-    persons = le16-cut 28 (at + 28) (omega arith) refl i;
-    reserved = le16-cut 30 (at + 30) (omega arith) refl i;
-  }
-
+-- ---- the rows
 rows-count : (n : ℕ) (bytes : List ℕ) → length (rows n bytes) ≡ n
 unfolding rows
 rows-count zero bytes = refl
@@ -66,7 +35,6 @@ module _ (bytes : List ℕ) (i : ℕ) (h : i < sheetOf bytes .unitCount) where
   unit-at =
       List·getD-map unitRow (rows (le16 bytes 8) (drop 48 bytes)) i []
       ∙ ap unitRow (row-at (le16 bytes 8) i (drop 48 bytes) h ∙ ap (take 32) (drop-drop (32 * i) 48 bytes))
-      ∙ row-cut bytes (48 + 32 * i)
 
   -- unit i and those behind it
   pub units-from : drop i (sheetOf bytes .units) ≡ unitOf (sheetOf bytes) i ∷ drop (i + 1) (sheetOf bytes .units)

@@ -3,25 +3,13 @@ use mathlib.Core.List.{List, [], _∷_}
 use mathlib.Core.Option.{Option, none, some}
 use Prim.Native.Nat.{ℕ, zero, suc, _+_}
 use lib.Dec.{leb}
-use lib.ListN.{length, getD}
+use lib.ListN.{length, getD, take, drop}
 use Rattle.sheet.specs.Tests.{if_then_else_}
-use Rattle.sheet.specs.Layout.{UnitRow, Sheet, unitRow, byte, le16, le32}
+use Rattle.sheet.specs.Layout.{UnitRow, Sheet, unitRow}
 
 -- the unit row that starts at byte `at`
-unfoldable pub unitRowAt : List ℕ → ℕ → UnitRow
-unitRowAt bytes at = record {
-  id = le32 bytes at;
-  status = byte bytes (at + 4);
-  waterClass = byte bytes (at + 5);
-  locationFactor = le16 bytes (at + 6);
-  heatedArea = le32 bytes (at + 8);
-  riserSurface = le32 bytes (at + 12);
-  heatLoad = le32 bytes (at + 16);
-  reading = le32 bytes (at + 20);
-  litres = le32 bytes (at + 24);
-  persons = le16 bytes (at + 28);
-  reserved = le16 bytes (at + 30);
-}
+abbrev pub unitRowAt : List ℕ → ℕ → UnitRow
+unitRowAt bytes at = unitRow (take 32 (drop at bytes))
 
 -- unit i, from 0; past the last one all fields are 0
 abbrev pub unitOf : Sheet → ℕ → UnitRow

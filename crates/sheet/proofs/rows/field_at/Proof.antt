@@ -1,8 +1,9 @@
-use mathlib.Core.Path.{_≡_, sym, ap, _∙_}
+use mathlib.Core.Path.{_≡_, refl, sym, ap, _∙_}
 use native.Mathlib.Omega.{arith}
 use lib.ListN.{List·getD-eq-default}
+use Rattle.sheet.specs.Layout.{unitRow}
 use Rattle.sheet.specs.Inner.Fields.{unitRowAt, rowField, rowFields}
-use Rattle.sheet.proofs.Fields.{row-byte, row-le32, row-le16, inside, outside}
+use Rattle.sheet.proofs.Fields.{le16-cut, le32-cut, row-byte, row-le32, row-le16, inside, outside}
 use borrow.Author.Needs.{needs}
 use Rattle.sheet.proofs.rows.field_at.Statement.{statement}
 use Rattle.sheet.proofs.rows.field_at.Tie as tie
@@ -24,11 +25,11 @@ read32-requires : tie.Need-read32-requires
 read32-requires c κs = search needs
 
 returns-3 : tie.Need-returns-3
-unfolding unitRowAt
+unfolding unitRow
 returns-3 c =
     let a = c .before .before .before .before .before .args in
     let e : 0 ≡ a .k = omega arith in
-    c .read32 .ensures ∙ ap (rowField (unitRowAt (a .s .now) (a .at))) e ∙ sym (inside (a .s .now) (a .at) (a .k) (omega arith))
+    c .read32 .ensures ∙ le32-cut (a .s .now) (a .at) (a .at) 0 (omega arith) (omega arith) ∙ ap (rowField (unitRowAt (a .s .now) (a .at))) e ∙ sym (inside (a .s .now) (a .at) (a .k) (omega arith))
 
 add-read8 : tie.Need-add-read8
 add-read8 c = search needs
@@ -51,11 +52,11 @@ read16-requires : tie.Need-read16-requires
 read16-requires c κs = search needs
 
 returns-5 : tie.Need-returns-5
-unfolding unitRowAt
+unfolding unitRow
 returns-5 c =
     let a = c .before .before .before .before .before .before .before .args in
     let e : 3 ≡ a .k = omega arith in
-    c .read16 .ensures ∙ ap (rowField (unitRowAt (a .s .now) (a .at))) e ∙ sym (inside (a .s .now) (a .at) (a .k) (omega arith))
+    c .read16 .ensures ∙ le16-cut (a .s .now) (a .at) _ 6 refl (omega arith) ∙ ap (rowField (unitRowAt (a .s .now) (a .at))) e ∙ sym (inside (a .s .now) (a .at) (a .k) (omega arith))
 
 sub-read32 : tie.Need-sub-read32
 sub-read32 c = search needs
