@@ -1,4 +1,4 @@
--- A sheet that passes 1 to 7 has what specs/Fits.antt lists. Assumes nothing.
+-- A sheet that passes 1 to 7 has what specs/Inner/Fits.antt lists. Assumes nothing.
 use mathlib.Core.Path.{_≡_, refl, subst}
 use mathlib.Core.Bool.{Bool, true, false, _&&_}
 use mathlib.Core.List.{List, [], _∷_, map}
@@ -12,7 +12,7 @@ use Rattle.sheet.specs.declared.ranges.Range.{Range}
 use Rattle.sheet.specs.declared.refusal.Outcome.the-variants.{Accepted}
 use Rattle.sheet.specs.Tests.{if_then_else_, all, Each}
 use Rattle.sheet.specs.Layout.{UnitRow, Sheet, sheetOf, waterReading}
-use Rattle.sheet.specs.Check.{entry, _to_, _within_, headerTests, rowTests, rowRules, sheetRules, checked, basePercentRanges, commonHeatRanges, unmeteredFactorRanges, commonWaterRanges, lossFactorRanges, firstWaterReadingRanges, otherWaterReadingRanges, statusRanges, waterClassRanges, readingRanges, litresRanges, personsRanges}
+use Rattle.sheet.specs.Check.{entry, _to_, _within_, passes, headerTests, rowTests, rowRules, sheetRules, checked, basePercentRanges, commonHeatRanges, unmeteredFactorRanges, commonWaterRanges, lossFactorRanges, firstWaterReadingRanges, otherWaterReadingRanges, statusRanges, waterClassRanges, readingRanges, litresRanges, personsRanges}
 use Rattle.sheet.specs.Inner.Fits.{InRange, Increasing, idOf, UnitFits, HeaderFits, Fits}
 use Rattle.sheet.proofs.Passed.{NoneHolds, none-holds, and-true, AllTrue, all-of, in-range}
 use Rattle.sheet.proofs.Units.{units-count}
@@ -34,11 +34,11 @@ read-high : (t : Bool) (x : ℕ) (r : Range) → InRange x (if t then r else 0 t
 read-high true x r h = h .1
 read-high false x r h = omega arith
 
-module _ (s : Sheet) (u : UnitRow) (model : s .model ≤ 5) (source : s .waterSource ≤ 3) (e : all (rowTests s u) ≡ true) where
+module _ (s : Sheet) (u : UnitRow) (model : s .model ≤ 5) (source : s .waterSource ≤ 3) (e : all (map passes (rowTests s u)) ≡ true) where
   pub unit-fits : UnitFits s u
   unfolding rowTests
   unit-fits =
-      let t = all-of (rowTests s u) e in
+      let t = all-of (map passes (rowTests s u)) e in
       let status = in-range (u .status) (entry statusRanges (s .model)) (t .0) in
       let class = in-range (u .waterClass) (entry waterClassRanges (s .waterSource)) (t .1 .0) in
       let factor = in-range (u .locationFactor) (1 to 1000) (t .1 .1 .0) in
@@ -93,11 +93,11 @@ ids-increase s i before (u ∷ []) h = tt
 ids-increase s i before (u ∷ v ∷ us) h = (leb-false (v .id) (u .id) (h .1 .1 .1 .0), ids-increase s (i + 1) (some (u .id)) (v ∷ us) (h .1 .1))
 
 -- ---- 4: the header
-module _ (s : Sheet) (version : s .version ≡ 1) (e : all (headerTests s) ≡ true) where
+module _ (s : Sheet) (version : s .version ≡ 1) (e : all (map passes (headerTests s)) ≡ true) where
   pub header-fits : HeaderFits s
   unfolding headerTests
   header-fits =
-      let t = all-of (headerTests s) e in
+      let t = all-of (map passes (headerTests s)) e in
       let month = in-range (s .month) (1 to 12) (t .0) in
       let model = in-range (s .model) (1 to 5) (t .1 .0) in
       let count = in-range (s .unitCount) (1 to 160) (t .1 .1 .0) in
@@ -141,13 +141,13 @@ module _ (s : Sheet) (version : s .version ≡ 1) (e : all (headerTests s) ≡ t
         oneWaterReading = λ w k l h. let z = entry-at-most otherWaterReadingRanges 3 0 (s .waterSource) refl (omega arith) in omega (arith, others k l h .1);
       }
     where
-      other-readings : AllTrue (
+      other-readings : AllTrue (map passes (
           (waterReading s 1 within entry otherWaterReadingRanges (s .waterSource))
           ∷ (waterReading s 2 within entry otherWaterReadingRanges (s .waterSource))
           ∷ (waterReading s 3 within entry otherWaterReadingRanges (s .waterSource))
           ∷ (waterReading s 4 within entry otherWaterReadingRanges (s .waterSource))
           ∷ (waterReading s 5 within entry otherWaterReadingRanges (s .waterSource))
-          ∷ []) → (k : ℕ) → 1 ≤ k → k < 6 → InRange (waterReading s k) (entry otherWaterReadingRanges (s .waterSource))
+          ∷ [])) → (k : ℕ) → 1 ≤ k → k < 6 → InRange (waterReading s k) (entry otherWaterReadingRanges (s .waterSource))
       other-readings t zero l h = absurd (omega arith)
       other-readings t (suc zero) l h = in-range _ _ (t .0)
       other-readings t (suc (suc zero)) l h = in-range _ _ (t .1 .0)

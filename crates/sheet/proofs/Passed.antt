@@ -10,7 +10,7 @@ use Rattle.sheet.specs.declared.ranges.Range.{Range}
 use Rattle.sheet.specs.declared.refusal.Outcome.the-variants.{Accepted}
 use Rattle.sheet.specs.Tests.{all, any}
 use Rattle.sheet.specs.Refusals.{Rule, _⇒_, firstRefusal}
-use Rattle.sheet.specs.Check.{_within_}
+use Rattle.sheet.specs.Check.{passes, _within_}
 use Rattle.sheet.specs.Inner.Fits.{InRange}
 
 -- ---- no rule's condition holds
@@ -62,5 +62,5 @@ none-of [] e = tt
 none-of (false ∷ ts) e = (refl, none-of ts e)
 none-of (true ∷ ts) e = absurd (let z : _≡_ {A = ℕ} 0 1 = cc in omega arith)
 
-pub in-range : (x : ℕ) (r : Range) → (x within r) ≡ true → InRange x r
+pub in-range : (x : ℕ) (r : Range) → passes (x within r) ≡ true → InRange x r
 in-range x r e = let h = and-true (leb (r .low) x) _ e in (leb-true (r .low) x (h .0), leb-true x (r .high) (h .1))

@@ -1,7 +1,7 @@
 -- The place of a refusal is 0 or a row below 160. Assumes nothing.
 use mathlib.Core.Path.{_≡_, refl}
 use mathlib.Core.Bool.{Bool, true, false, not}
-use mathlib.Core.List.{List, [], _∷_, _++_}
+use mathlib.Core.List.{List, [], _∷_, _++_, map}
 use mathlib.Core.Option.{Option, none, some}
 use Prim.Native.Nat.{ℕ, _+_, _*_, _≤_, _<_}
 use native.Mathlib.Omega.{arith}
@@ -12,7 +12,7 @@ use Rattle.sheet.specs.Tests.{all}
 use Rattle.sheet.specs.Refusals.{Rule, _⇒_, firstRefusal, placeOf}
 use Rattle.sheet.specs.Inner.Places.{PlaceBelow}
 use Rattle.sheet.specs.Layout.{UnitRow, Sheet, sheetOf}
-use Rattle.sheet.specs.Check.{headerTests, rowTests, notAbove, rowRules, sheetRules, sameList, sheetMagic}
+use Rattle.sheet.specs.Check.{passes, headerTests, rowTests, notAbove, rowRules, sheetRules, sameList, sheetMagic}
 use Rattle.sheet.proofs.Passed.{all-of, in-range}
 use Rattle.sheet.proofs.Units.{units-count}
 
@@ -28,7 +28,7 @@ rows-place : (k : ℕ) (s : Sheet) (i : ℕ) (before : Option ℕ) (us : List Un
 unfolding rowRules
 rows-place k s i before [] rules h f = f
 rows-place k s i before (u ∷ us) rules h f =
-    place-rule k (not (all (rowTests s u))) _ _ (omega arith)
+    place-rule k (not (all (map passes (rowTests s u)))) _ _ (omega arith)
     (λ _. place-rule k (notAbove (u .id) before) _ _ (omega arith) (λ _. rows-place k s (i + 1) (some (u .id)) us rules (omega arith) f))
 
 -- 1 to 7, and what follows
@@ -39,6 +39,6 @@ sheet-place width bytes rules f =
     place-rule 160 (ltb (length bytes) 48) _ _ (omega arith)
     (λ _. place-rule 160 (not (sameList (s .magic) sheetMagic)) _ _ (omega arith)
     (λ _. place-rule 160 (not (eqb (s .version) 1)) _ _ (omega arith)
-    (λ _. place-rule 160 (not (all (headerTests s))) _ _ (omega arith)
+    (λ _. place-rule 160 (not (all (map passes (headerTests s)))) _ _ (omega arith)
     (λ e. place-rule 160 (not (eqb (length bytes) (48 + width * s .unitCount))) _ _ (omega arith)
     (λ _. rows-place 160 s 0 none (s .units) rules (omega (arith, units-count bytes, in-range (s .unitCount) _ (all-of _ (not-false _ e) .1 .1 .0) .1)) f)))))

@@ -1,7 +1,7 @@
 -- Which of 1 to 5 refuses a sheet, by the tests on the way, and that the rows decide behind them; how a record part is checked. Assumes nothing.
 use mathlib.Core.Path.{_≡_, sym, ap, _∙_}
 use mathlib.Core.Bool.{Bool, true, false, not}
-use mathlib.Core.List.{List, [], _∷_, _++_}
+use mathlib.Core.List.{List, [], _∷_, _++_, map}
 use mathlib.Core.Option.{none}
 use Prim.Native.Nat.{ℕ, _+_, _*_, _≤_, _<_}
 use native.Mathlib.Omega.{arith}
@@ -13,7 +13,7 @@ use Rattle.sheet.specs.declared.refusal.Refusal.the-variants.{TooShort, 
 use Rattle.sheet.specs.Tests.{all}
 use Rattle.sheet.specs.Refusals.{Rule, _⇒_, firstRefusal}
 use Rattle.sheet.specs.Layout.{Sheet, sheetOf}
-use Rattle.sheet.specs.Check.{checked, sheetRules, headerTests, rowRules, sameList}
+use Rattle.sheet.specs.Check.{passes, checked, sheetRules, headerTests, rowRules, sameList}
 use Rattle.sheet.proofs.Units.{sheet-append}
 
 module _ (width : ℕ) (bytes : List ℕ) where
@@ -32,11 +32,11 @@ module _ (width : ℕ) (bytes : List ℕ) where
       bad-version h = rw (le-ltb _ _ long, magic, ne-eqb _ _ h)
 
       module _ (version : sheetOf bytes .version ≡ 1) where
-        pub bad-header : all (headerTests (sheetOf bytes)) ≡ false → checked width bytes ≡ Refused HeaderField
+        pub bad-header : all (map passes (headerTests (sheetOf bytes))) ≡ false → checked width bytes ≡ Refused HeaderField
         unfolding checked sheetRules firstRefusal
         bad-header e = rw (le-ltb _ _ long, magic, eq-eqb _ _ version, e)
 
-        module _ (header : all (headerTests (sheetOf bytes)) ≡ true) where
+        module _ (header : all (map passes (headerTests (sheetOf bytes))) ≡ true) where
           pub bad-length : (length bytes ≡ 48 + width * sheetOf bytes .unitCount → ⊥) → checked width bytes ≡ Refused WrongLength
           unfolding checked sheetRules firstRefusal
           bad-length h = rw (le-ltb _ _ long, magic, eq-eqb _ _ version, header, ne-eqb _ _ h)
@@ -51,7 +51,7 @@ rulesBy short fits s =
     (short ⇒ TooShort)
     ∷ (not (sameList (s .magic) (72 ∷ 67 ∷ 83 ∷ 0 ∷ [])) ⇒ BadMagic)
     ∷ (not (eqb (s .version) 1) ⇒ UnsupportedVersion)
-    ∷ (not (all (headerTests s)) ⇒ HeaderField)
+    ∷ (not (all (map passes (headerTests s))) ⇒ HeaderField)
     ∷ (not fits ⇒ WrongLength)
     ∷ rowRules s 0 none (s .units)
 

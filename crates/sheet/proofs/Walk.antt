@@ -1,7 +1,7 @@
 -- The check one field and one row at a time: what the loops over fields and rows use. Assumes nothing.
 use mathlib.Core.Path.{_≡_, refl, sym, ap, ap₂, _∙_}
 use mathlib.Core.Bool.{Bool, true, false}
-use mathlib.Core.List.{List, [], _∷_}
+use mathlib.Core.List.{List, [], _∷_, map}
 use mathlib.Core.Option.{Option}
 use Prim.Native.Nat.{ℕ, zero, suc, _+_, _≤_, _<_}
 use native.Mathlib.Omega.{arith}
@@ -15,9 +15,9 @@ use Rattle.sheet.specs.declared.refusal.Refusal.the-variants.{RowField, 
 use Rattle.sheet.specs.Tests.{all}
 use Rattle.sheet.specs.Refusals.{firstRefusal}
 use Rattle.sheet.specs.Layout.{UnitRow, Sheet, sheetOf}
-use Rattle.sheet.specs.Inner.Fields.{unitOf, idBefore, rowFields, rowField, headerFields, headerField}
-use Rattle.sheet.specs.Check.{_to_, _within_, entry, statusRanges, waterClassRanges, readingRanges, headerTests, rowTests, rowRules, notAbove}
-use Rattle.sheet.specs.Inner.FieldRanges.{headerRanges, rowRanges, rangeTests}
+use Rattle.sheet.specs.Inner.Fields.{unitOf, idBefore, rowField, headerField}
+use Rattle.sheet.specs.Check.{FieldTest, passes, _to_, _within_, headerTests, rowTests, rowRules, notAbove}
+use Rattle.sheet.specs.Inner.FieldRanges.{rangesOf}
 use Rattle.sheet.proofs.Units.{units-from, units-count}
 
 -- ---- tests from k on: test k passes, fails, or there is none
@@ -35,40 +35,30 @@ module _ (ts : List Bool) (k : ℕ) where
   tests-end h = ap all (drop-of-length-le ts h)
 
 -- ---- test k is field k against range k
-range-test : (xs : List ℕ) (rs : List Range) (k : ℕ) → k < length xs → k < length rs → (getD xs k 0 within getD rs k (0 to 0)) ≡ getD (rangeTests xs rs) k false
-range-test [] rs k h l = absurd (omega arith)
-range-test (x ∷ xs) [] k h l = absurd (omega arith)
-range-test (x ∷ xs) (r ∷ rs) zero h l = refl
-range-test (x ∷ xs) (r ∷ rs) (suc k) h l = range-test xs rs k (omega arith) (omega arith)
+test-at : (ts : List FieldTest) (k : ℕ) → k < length ts → passes (getD (map (λ t. t .value) ts) k 0 within getD (rangesOf ts) k (0 to 0)) ≡ getD (map passes ts) k false
+test-at [] k h = absurd (omega arith)
+test-at (t ∷ ts) zero h = refl
+test-at (t ∷ ts) (suc k) h = test-at ts k (omega arith)
 
 module _ (bytes : List ℕ) where
-  pub header-length : length (headerTests (sheetOf bytes)) ≡ 17
+  pub header-length : length (map passes (headerTests (sheetOf bytes))) ≡ 17
   unfolding headerTests
   header-length = refl
 
-  pub header-test : (model source x k : ℕ) (rs : List Range) → model ≡ sheetOf bytes .model → source ≡ sheetOf bytes .waterSource → rs ≡ headerRanges model source → x ≡ headerField (sheetOf bytes) k → k < 17
-      → (x within getD rs k (0 to 0)) ≡ getD (headerTests (sheetOf bytes)) k false
-  unfolding headerTests headerRanges sheetOf
-  header-test model source x k rs m s r e h =
-      ap₂ (λ (x : ℕ) (rs : List Range). x within getD rs k (0 to 0)) e (r ∙ ap₂ headerRanges m s)
-      ∙ range-test (headerFields (sheetOf bytes)) (headerRanges (sheetOf bytes .model) (sheetOf bytes .waterSource)) k h h
+  pub header-test : (x k : ℕ) (rs : List Range) → rs ≡ rangesOf (headerTests (sheetOf bytes)) → x ≡ headerField (sheetOf bytes) k → k < 17
+      → passes (x within getD rs k (0 to 0)) ≡ getD (map passes (headerTests (sheetOf bytes))) k false
+  unfolding headerTests sheetOf
+  header-test x k rs r e h = ap₂ (λ (x : ℕ) (rs : List Range). passes (x within getD rs k (0 to 0))) e r ∙ test-at (headerTests (sheetOf bytes)) k h
 
 module _ (s : Sheet) (u : UnitRow) where
-  pub row-length : length (rowTests s u) ≡ 10
+  pub row-length : length (map passes (rowTests s u)) ≡ 10
   unfolding rowTests
   row-length = refl
 
-  pub row-test : (model source status class x k : ℕ) (statuses classes readings : Range) (rs : List Range) → model ≡ s .model → source ≡ s .waterSource
-      → statuses ≡ entry statusRanges model → classes ≡ entry waterClassRanges source → readings ≡ entry readingRanges model
-      → status ≡ u .status → class ≡ u .waterClass → rs ≡ rowRanges statuses classes readings status class → x ≡ rowField u (k + 1) → k < 10
-      → (x within getD rs k (0 to 0)) ≡ getD (rowTests s u) k false
-  unfolding rowTests rowRanges
-  row-test model source status class x k statuses classes readings rs m w l₁ l₂ l₃ t c r e h =
-      ap₂ (λ (x : ℕ) (rs : List Range). x within getD rs k (0 to 0)) (e ∙ ap (rowField u) (add-one k))
-      (r ∙ ap₂ (λ (a b : Range). rowRanges a b readings status class) (l₁ ∙ ap (entry statusRanges) m) (l₂ ∙ ap (entry waterClassRanges) w)
-      ∙ ap (λ (c : Range). rowRanges (entry statusRanges (s .model)) (entry waterClassRanges (s .waterSource)) c status class) (l₃ ∙ ap (entry readingRanges) m)
-      ∙ ap₂ (rowRanges (entry statusRanges (s .model)) (entry waterClassRanges (s .waterSource)) (entry readingRanges (s .model))) t c)
-      ∙ range-test (drop 1 (rowFields u)) (rowRanges (entry statusRanges (s .model)) (entry waterClassRanges (s .waterSource)) (entry readingRanges (s .model)) (u .status) (u .waterClass)) k h h
+  pub row-test : (x k : ℕ) (rs : List Range) → rs ≡ rangesOf (rowTests s u) → x ≡ rowField u (k + 1) → k < 10
+      → passes (x within getD rs k (0 to 0)) ≡ getD (map passes (rowTests s u)) k false
+  unfolding rowTests
+  row-test x k rs r e h = ap₂ (λ (x : ℕ) (rs : List Range). passes (x within getD rs k (0 to 0))) (e ∙ ap (rowField u) (add-one k)) r ∙ test-at (rowTests s u) k h
 
 -- ---- the rows from i on
 abbrev pub rowsFrom : List ℕ → ℕ → Outcome
@@ -76,7 +66,7 @@ rowsFrom bytes i = firstRefusal (rowRules (sheetOf bytes) i (idBefore (sheetOf b
 
 module _ (bytes : List ℕ) (i : ℕ) where
   abbrev pub testsOf : List Bool
-  testsOf = rowTests (sheetOf bytes) (unitOf (sheetOf bytes) i)
+  testsOf = map passes (rowTests (sheetOf bytes) (unitOf (sheetOf bytes) i))
 
   abbrev pub outOfOrder : Bool
   outOfOrder = notAbove (unitOf (sheetOf bytes) i .id) (idBefore (sheetOf bytes) i)

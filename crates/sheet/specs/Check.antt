@@ -1,6 +1,6 @@
 -- The check of a sheet: refusals 1 to 7 (document 01, "The sheet", "Refused sheets and calls").
 use mathlib.Core.Bool.{Bool, true, false, not, _&&_}
-use mathlib.Core.List.{List, [], _∷_}
+use mathlib.Core.List.{List, [], _∷_, map}
 use mathlib.Core.Option.{Option, none, some}
 use Prim.Native.Nat.{ℕ, _+_, _*_}
 use lib.Dec.{ltb, leb, eqb}
@@ -17,9 +17,17 @@ infix 80 _to_
 abbrev pub _to_ : ℕ → ℕ → Range
 low to high = record { low = low; high = high }
 
+-- a field held to a range
+pub record FieldTest : Type 0 where
+  pub value : ℕ
+  pub range : Range
+
 infix 70 _within_
-abbrev pub _within_ : ℕ → Range → Bool
-x within r = leb (r .low) x && leb x (r .high)
+abbrev pub _within_ : ℕ → Range → FieldTest
+x within r = record { value = x; range = r }
+
+abbrev pub passes : FieldTest → Bool
+passes t = leb (t .range .low) (t .value) && leb (t .value) (t .range .high)
 
 -- entry k of a table
 abbrev pub entry : List Range → ℕ → Range
@@ -65,7 +73,7 @@ abbrev pub personsRanges : List Range
 personsRanges = 0 to 0 ∷ 0 to 50 ∷ 0 to 50 ∷ []
 
 -- ---- 4: the header fields after the version, in layout order
-unfoldable pub headerTests : Sheet → List Bool
+unfoldable pub headerTests : Sheet → List FieldTest
 headerTests s =
     s .month within 1 to 12
     ∷ s .model within 1 to 5
@@ -87,7 +95,7 @@ headerTests s =
     ∷ []
 
 -- ---- 6: the fields of a row, in layout order. An id may be any number.
-unfoldable pub rowTests : Sheet → UnitRow → List Bool
+unfoldable pub rowTests : Sheet → UnitRow → List FieldTest
 rowTests s u =
     u .status within entry statusRanges (s .model)
     ∷ u .waterClass within entry waterClassRanges (s .waterSource)
@@ -110,7 +118,7 @@ notAbove id (some before) = leb id before
 unfoldable pub rowRules : Sheet → ℕ → Option ℕ → List UnitRow → List Rule
 rowRules s i before [] = []
 rowRules s i before (u ∷ us) =
-    (not (all (rowTests s u)) ⇒ RowField i)
+    (not (all (map passes (rowTests s u))) ⇒ RowField i)
     ∷ (notAbove (u .id) before ⇒ IdOrder i)
     ∷ rowRules s (i + 1) (some (u .id)) us
 
@@ -132,7 +140,7 @@ sheetRules perUnit bytes =
     (ltb (length bytes) 48 ⇒ TooShort)
     ∷ (not (sameList (s .magic) sheetMagic) ⇒ BadMagic)
     ∷ (not (eqb (s .version) 1) ⇒ UnsupportedVersion)
-    ∷ (not (all (headerTests s)) ⇒ HeaderField)
+    ∷ (not (all (map passes (headerTests s))) ⇒ HeaderField)
     ∷ (not (eqb (length bytes) (48 + perUnit * s .unitCount)) ⇒ WrongLength)
     ∷ rowRules s 0 none (s .units)
 

@@ -52,14 +52,10 @@ fn check_rows(s: &[u8], n: usize) -> Outcome
     requires { ⌜ (n ≡ sheetOf (now s) .unitCount) × ((n ≤ 160) × (48 + 32 * n ≤ length (now s))) ⌝ }
     ensures { λ r. ⌜ r ≡ firstRefusal (rowRules (sheetOf (now (s .entry))) 0 none (sheetOf (now (s .entry)) .units)) ⌝ }
 {
-    let model = header_field(s, header::MODEL);
-    let source = header_field(s, header::WATER_SOURCE);
-    let limits = ranges::row_limits(model, source);
+    let limits = ranges::row_limits(s);
     let mut found = Outcome::Accepted;
     'rows: for i in 0..n {
-        let status = unit_field(s, i, rows::STATUS);
-        let class = unit_field(s, i, rows::WATER_CLASS);
-        let ranges = ranges::row_ranges(limits, status, class);
+        let ranges = ranges::row_ranges(s, i, limits);
         for k in 0..10usize {
             let range = ranges[k];
             if !ranges::within(unit_field(s, i, k + rows::STATUS), range) {

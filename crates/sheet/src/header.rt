@@ -1,11 +1,12 @@
 // The header (document 01, "The sheet"): its fields after the version, numbered in layout order.
 ghost use mathlib.Core.Path.{_≡_};
+ghost use mathlib.Core.List.{map};
 ghost use Prim.Native.Nat.{_≤_, _<_};
 ghost use lib.ListN.{length};
 ghost use Rattle.sheet.specs.Tests.{all};
 ghost use Rattle.sheet.specs.Layout.{sheetOf};
 ghost use Rattle.sheet.specs.Inner.Fields.{headerField};
-ghost use Rattle.sheet.specs.Check.{headerTests};
+ghost use Rattle.sheet.specs.Check.{passes, headerTests};
 use crate::bytes;
 use crate::ranges;
 
@@ -53,9 +54,9 @@ pub fn header_field(s: &[u8], k: usize) -> u32
 // 4: every field is within its range.
 pub(crate) fn header_fits(s: &[u8]) -> bool
     requires { ⌜ 48 ≤ length (now s) ⌝ }
-    ensures { λ r. ⌜ r ≡ all (headerTests (sheetOf (now (s .entry)))) ⌝ }
+    ensures { λ r. ⌜ r ≡ all (map passes (headerTests (sheetOf (now (s .entry))))) ⌝ }
 {
-    let ranges = ranges::header_ranges(header_field(s, MODEL), header_field(s, WATER_SOURCE));
+    let ranges = ranges::header_ranges(s);
     for k in 0..17usize {
         let range = ranges[k];
         if !ranges::within(header_field(s, k), range) {

@@ -1,9 +1,17 @@
 // Lowest and highest value of each field (document 01, "The sheet").
 ghost use mathlib.Core.Path.{_≡_};
+ghost use Prim.Native.Nat.{_+_, _*_, _≤_, _<_};
 ghost use lib.Dec.{eqb};
-ghost use Rattle.sheet.specs.Check.{_within_, _to_, entry, statusRanges, waterClassRanges, readingRanges};
+ghost use lib.ListN.{length};
+ghost use Rattle.sheet.specs.Layout.{sheetOf};
+ghost use Rattle.sheet.specs.Check.{passes, _within_, _to_, entry, headerTests, rowTests};
 ghost use Rattle.sheet.specs.Tests.{if_then_else_};
-ghost use Rattle.sheet.specs.Inner.FieldRanges.{headerRanges, rowRanges};
+ghost use Rattle.sheet.specs.Inner.Fields.{unitOf};
+ghost use Rattle.sheet.specs.Inner.FieldRanges.{rangesOf, LimitsOf};
+use crate::header;
+use crate::header::header_field;
+use crate::rows;
+use crate::rows::unit_field;
 use crate::tables;
 
 pub struct Range {
@@ -12,7 +20,7 @@ pub struct Range {
 }
 
 pub fn within(x: u32, r: Range) -> bool
-    ensures { λ t. ⌜ t ≡ (x within r) ⌝ }
+    ensures { λ t. ⌜ t ≡ passes (x within r) ⌝ }
 {
     if x < r.low {
         return false;
@@ -51,9 +59,12 @@ fn by_class(table: [Range; 3], class: u32) -> Range
 }
 
 // The header's fields, in layout order.
-pub fn header_ranges(model: u32, source: u32) -> [Range; 17]
-    ensures { λ r. ⌜ r ≡ headerRanges model source ⌝ }
+pub fn header_ranges(s: &[u8]) -> [Range; 17]
+    requires { ⌜ 48 ≤ length (now s) ⌝ }
+    ensures { λ r. ⌜ r ≡ rangesOf (headerTests (sheetOf (now (s .entry)))) ⌝ }
 {
+    let model = header_field(s, header::MODEL);
+    let source = header_field(s, header::WATER_SOURCE);
     let other = by_source(tables::OTHER_WATER_READING, source);
     [
         Range { low: 1, high: 12 },
@@ -86,9 +97,12 @@ pub struct RowLimits {
     pub reading: Range,
 }
 
-pub fn row_limits(model: u32, source: u32) -> RowLimits
-    ensures { λ r. ⌜ (r .status ≡ entry statusRanges model) × (r .class ≡ entry waterClassRanges source) × (r .reading ≡ entry readingRanges model) ⌝ }
+pub fn row_limits(s: &[u8]) -> RowLimits
+    requires { ⌜ 48 ≤ length (now s) ⌝ }
+    ensures { λ r. ⌜ LimitsOf (sheetOf (now (s .entry))) r ⌝ }
 {
+    let model = header_field(s, header::MODEL);
+    let source = header_field(s, header::WATER_SOURCE);
     RowLimits {
         status: by_model(tables::STATUS, model),
         class: by_source(tables::WATER_CLASS, source),
@@ -103,10 +117,13 @@ fn if_read(status: u32, reading: Range) -> Range
     if status == 0 { reading } else { tables::ZERO }
 }
 
-// A row's fields after the id, in layout order.
-pub fn row_ranges(limits: RowLimits, status: u32, class: u32) -> [Range; 10]
-    ensures { λ r. ⌜ r ≡ rowRanges (limits .status) (limits .class) (limits .reading) status class ⌝ }
+// The fields of row i after the id, in layout order.
+pub fn row_ranges(s: &[u8], i: usize, limits: RowLimits) -> [Range; 10]
+    requires { ⌜ (i < sheetOf (now s) .unitCount) × (80 + 32 * i ≤ length (now s)) × LimitsOf (sheetOf (now s)) limits ⌝ }
+    ensures { λ r. ⌜ r ≡ rangesOf (rowTests (sheetOf (now (s .entry))) (unitOf (sheetOf (now (s .entry))) i)) ⌝ }
 {
+    let status = unit_field(s, i, rows::STATUS);
+    let class = unit_field(s, i, rows::WATER_CLASS);
     let statuses = limits.status;
     let classes = limits.class;
     let readings = limits.reading;

@@ -12,7 +12,7 @@ use lib.ListN.{length, getD}
 use Rattle.apportion.specs.Shares.{sum}
 use Rattle.sheet.specs.declared.refusal.Refusal.the-variants.{OtherBuilding, MonthState, NoSuchUnit}
 use Rattle.sheet.specs.Tests.{if_then_else_}
-use Rattle.sheet.specs.Check.{_to_, _within_}
+use Rattle.sheet.specs.Check.{_to_, _within_, passes}
 use Rattle.sheet.specs.Layout.{sheetOf}
 use Rattle.sheet.proofs.Passed.{in-range}
 use Rattle.month.specs.Month.{Month, Settled, monthOf, settledSheet, statementOf}
@@ -99,11 +99,11 @@ module _ {n : ℕ} {b : List ℕ} {p : PlainBook} (h : Shows n b p) where
   -- ---- withdraw
   withdraw-so : (month : ℕ) → Follows n b (withdraw month) (called p (withdraw month))
   unfolding called withdrawn nowHolds
-  withdraw-so month = go (not (month within 1 to 12) || not (stands p month)) refl
+  withdraw-so month = go (not (passes (month within 1 to 12)) || not (stands p month)) refl
     where
-      go : (t : Bool) → (not (month within 1 to 12) || not (stands p month)) ≡ t → Follows n b (withdraw month) (if t then refuse p MonthState else nowHolds p month none)
+      go : (t : Bool) → (not (passes (month within 1 to 12)) || not (stands p month)) ≡ t → Follows n b (withdraw month) (if t then refuse p MonthState else nowHolds p month none)
       go false e =
-          let k = neither (not (month within 1 to 12)) _ e in
+          let k = neither (not (passes (month within 1 to 12))) _ e in
           let r = in-range month (1 to 12) (not-false _ (k .0)) in
           follows (withdraw-accepted b month sound (r .0) (r .1) (stands-so month (r .0) (r .1) ∙ not-false _ (k .1))) (shows-cleared h month (r .0) (r .1))
       go true e = elim (decLt month 1) [

@@ -10,7 +10,7 @@ use Rattle.sheet.specs.declared.refusal.Refusal.{Refusal}
 use Rattle.sheet.specs.declared.refusal.Refusal.the-variants.{OtherBuilding, MonthState, NoSuchUnit}
 use Rattle.sheet.specs.Tests.{if_then_else_}
 use Rattle.sheet.specs.Layout.{sheetOf}
-use Rattle.sheet.specs.Check.{_to_, _within_, sameList}
+use Rattle.sheet.specs.Check.{_to_, _within_, passes, sameList}
 use Rattle.month.specs.Month.{Month, Settled, settledSheet, statementOf}
 use Rattle.yearbook.specs.Calls.{Call, post, replace, withdraw, year, Reply, accepted, refused, totals, eight}
 
@@ -78,7 +78,7 @@ brought p sheet wrongMonth (Settled.settled m) =
 -- Withdraw brings a month and is refused by 17 when that isn't 1–12 or doesn't stand; otherwise the month holds nothing.
 unfoldable pub withdrawn : PlainBook → ℕ → Step
 withdrawn p month =
-    if not (month within 1 to 12) || not (stands p month) then refuse p MonthState
+    if not (passes (month within 1 to 12)) || not (stands p month) then refuse p MonthState
     else nowHolds p month none
 
 -- number j of the unit at a place in the statement that a sheet settles to

@@ -1,6 +1,6 @@
 use mathlib.Core.Path.{_≡_, sym, ap, _∙_}
 use mathlib.Core.Bool.{true}
-use mathlib.Core.List.{List, [], _∷_}
+use mathlib.Core.List.{List, [], _∷_, map}
 use Prim.Native.Nat.{ℕ, _+_, _*_, _≤_}
 use native.Mathlib.Nat.{mul-le-mul-right}
 use native.Mathlib.Omega.{arith}
@@ -9,7 +9,7 @@ use borrow.Author.Tests.{not-true, not-false}
 use lib.ListN.{length}
 use Rattle.sheet.specs.Tests.{all}
 use Rattle.sheet.specs.Layout.{sheetOf}
-use Rattle.sheet.specs.Check.{headerTests, sameList}
+use Rattle.sheet.specs.Check.{passes, headerTests, sameList}
 use Rattle.sheet.proofs.Fits.{header-fits}
 use Rattle.sheet.proofs.Verdict.{too-short, bad-magic, bad-version, bad-header, bad-length, by-rows}
 use Rattle.sheet.proofs.check.check.Statement.{statement}
@@ -33,7 +33,7 @@ version : (c : tie.Else3) → sheetOf (bytesOf (c .before .before)) .version ≡
 unfolding sheetOf
 version c = sym (c .before .read16 .ensures) ∙ c .if3 .left
 
-header : (c : tie.Else4) → all (headerTests (sheetOf (bytesOf (c .before .before .before .before)))) ≡ true
+header : (c : tie.Else4) → all (map passes (headerTests (sheetOf (bytesOf (c .before .before .before .before))))) ≡ true
 header c = sym (c .before .header-fits .ensures) ∙ not-false _ (c .if4 .left)
 
 -- the number of units, 160 at most

@@ -18,29 +18,29 @@ ten : (s : List ℕ) (i : ℕ) → length (testsOf s i) ≡ 10
 ten s i = row-length (sheetOf s) (unitOf (sheetOf s) i)
 
 abbrev Inv-loop : tie.InvT-loop
-Inv-loop s n model source limits found₀ i status class ranges k₀ found k = (k ≤ 10) × ((found ≡ Accepted) × (all (drop k (testsOf s i)) ≡ all (testsOf s i)))
+Inv-loop s n limits found₀ i ranges k₀ found k = (k ≤ 10) × ((found ≡ Accepted) × (all (drop k (testsOf s i)) ≡ all (testsOf s i)))
 
 abbrev μ-loop : tie.MeasureT-loop
-μ-loop s n model source limits found₀ i status class ranges k₀ found k = 10 - k
+μ-loop s n limits found₀ i ranges k₀ found k = 10 - k
 
 abbrev Inv-rows : tie.InvT-rows
-Inv-rows s n model source limits found₀ i₀ found i = (i ≤ n) × ((found ≡ Accepted) × (rowsFrom s i ≡ rowsFrom s 0))
+Inv-rows s n limits found₀ i₀ found i = (i ≤ n) × ((found ≡ Accepted) × (rowsFrom s i ≡ rowsFrom s 0))
 
 abbrev μ-rows : tie.MeasureT-rows
-μ-rows s n model source limits found₀ i₀ found i = n - i
+μ-rows s n limits found₀ i₀ found i = n - i
 
 -- the row and the field at hand, from the test of a field
 abbrev Tested : Type 0
 Tested = tie.After-within Inv-loop μ-loop Inv-rows μ-rows
 
 abbrev rowOf : Tested → tie.At-rows Inv-loop μ-loop Inv-rows μ-rows
-rowOf c = c .before .before .before .before .before .before .before .before .before
+rowOf c = c .before .before .before .before .before .before .before
 
 abbrev fieldOf : Tested → tie.At-loop Inv-loop μ-loop Inv-rows μ-rows
 fieldOf c = c .before .before .before .before
 
 abbrev bytesOf : tie.At-rows Inv-loop μ-loop Inv-rows μ-rows → List ℕ
-bytesOf c = c .before .before .before .before .before .args .s .now
+bytesOf c = c .before .before .before .args .s .now
 
 -- the code's test is the definition's
 test : (c : Tested) → getD (testsOf (bytesOf (rowOf c)) (rowOf c .rows .i)) (fieldOf c .loop .k) false ≡ c .within .result
@@ -48,40 +48,30 @@ test c =
     let s = sheetOf (bytesOf (rowOf c)) in
     let row = rowOf c in
     let field = fieldOf c in
-    let ranges = row-test s (unitOf s (row .rows .i)) _ _ _ _ _ (field .loop .k) _ _ _ _ (row .before .before .before .header-field .ensures) (row .before .before .header-field2 .ensures) (row .before .row-limits .ensures .0) (row .before .row-limits .ensures .1) (row .before .row-limits .ensures .2) (field .before .before .before .unit-field .ensures) (field .before .before .unit-field2 .ensures) (field .before .row-ranges .ensures) in
-    sym (c .within .ensures ∙ ranges (c .before .unit-field3 .ensures) (omega arith))
+    sym (c .within .ensures ∙ row-test s (unitOf s (row .rows .i)) _ (field .loop .k) _ (field .before .row-ranges .ensures) (c .before .unit-field .ensures) (omega arith))
 
 -- behind the last field all tests have passed
-passed : (c : tie.After-loop Inv-loop μ-loop Inv-rows μ-rows) → all (testsOf (bytesOf (c .before .before .before .before .before .before)) (c .before .before .before .before .before .before .rows .i)) ≡ true
+abbrev rowDone : tie.After-loop Inv-loop μ-loop Inv-rows μ-rows → tie.At-rows Inv-loop μ-loop Inv-rows μ-rows
+rowDone c = c .before .before .before .before
+
+passed : (c : tie.After-loop Inv-loop μ-loop Inv-rows μ-rows) → all (testsOf (bytesOf (rowDone c)) (rowDone c .rows .i)) ≡ true
 passed c =
-    let s = bytesOf (c .before .before .before .before .before .before) in
-    let i = c .before .before .before .before .before .before .rows .i in
+    let s = bytesOf (rowDone c) in
+    let i = rowDone c .rows .i in
     let fields = c .before .loop in
     sym (fields .inv .1 .1) ∙ tests-end (testsOf s i) (fields .k) (omega (arith, ten s i))
 
-header-field-requires : tie.Need-header-field-requires Inv-loop μ-loop Inv-rows μ-rows
-header-field-requires c κs = omega arith
-
-header-field-requires-2 : tie.Need-header-field-requires-2 Inv-loop μ-loop Inv-rows μ-rows
-header-field-requires-2 c κs = omega arith
-
 row-limits-requires : tie.Need-row-limits-requires Inv-loop μ-loop Inv-rows μ-rows
-row-limits-requires c κs = search needs
+row-limits-requires c κs = omega arith
 
 rows-holds : tie.Need-rows-holds Inv-loop μ-loop Inv-rows μ-rows
 rows-holds c = (omega arith, (refl, refl))
 
-unit-field-requires : tie.Need-unit-field-requires Inv-loop μ-loop Inv-rows μ-rows
-unit-field-requires c κs = omega arith
-
-unit-field-requires-2 : tie.Need-unit-field-requires-2 Inv-loop μ-loop Inv-rows μ-rows
-unit-field-requires-2 c κs = omega arith
-
 row-ranges-requires : tie.Need-row-ranges-requires Inv-loop μ-loop Inv-rows μ-rows
-row-ranges-requires c κs = search needs
+row-ranges-requires c κs = (omega arith, omega arith, c .before .before .row-limits .ensures)
 
 loop-holds : tie.Need-loop-holds Inv-loop μ-loop Inv-rows μ-rows
-loop-holds c = (omega arith, (c .before .before .before .before .rows .inv .1 .0, refl))
+loop-holds c = (omega arith, (c .before .before .rows .inv .1 .0, refl))
 
 mul-range : tie.Need-mul-range Inv-loop μ-loop Inv-rows μ-rows
 mul-range c = omega arith
@@ -92,14 +82,14 @@ array-copy-out-range c = omega arith
 add-unit-field : tie.Need-add-unit-field Inv-loop μ-loop Inv-rows μ-rows
 add-unit-field c = omega arith
 
-unit-field-requires-3 : tie.Need-unit-field-requires-3 Inv-loop μ-loop Inv-rows μ-rows
-unit-field-requires-3 c κs = omega arith
+unit-field-requires : tie.Need-unit-field-requires Inv-loop μ-loop Inv-rows μ-rows
+unit-field-requires c κs = omega arith
 
 within-requires : tie.Need-within-requires Inv-loop μ-loop Inv-rows μ-rows
 within-requires c κs = search needs
 
-cast-t22 : tie.Need-cast-t22 Inv-loop μ-loop Inv-rows μ-rows
-cast-t22 c = omega arith
+cast-t18 : tie.Need-cast-t18 Inv-loop μ-loop Inv-rows μ-rows
+cast-t18 c = omega arith
 
 add-k : tie.Need-add-k Inv-loop μ-loop Inv-rows μ-rows
 add-k c = omega arith
@@ -119,8 +109,8 @@ loop-again c =
 not-above-requires : tie.Need-not-above-requires Inv-loop μ-loop Inv-rows μ-rows
 not-above-requires c κs = omega arith
 
-cast-t25 : tie.Need-cast-t25 Inv-loop μ-loop Inv-rows μ-rows
-cast-t25 c = omega arith
+cast-t21 : tie.Need-cast-t21 Inv-loop μ-loop Inv-rows μ-rows
+cast-t21 c = omega arith
 
 add-i : tie.Need-add-i Inv-loop μ-loop Inv-rows μ-rows
 add-i c = omega arith
@@ -130,7 +120,7 @@ rows-less c = omega arith
 
 rows-again : tie.Need-rows-again Inv-loop μ-loop Inv-rows μ-rows
 rows-again c =
-    let row = c .before .before .before .before .before .before .before .before in
+    let row = rowDone (c .before .before) in
     let ordered = sym (c .before .not-above .ensures) ∙ c .if2 .left in
     (omega arith, (c .before .before .before .loop .inv .1 .0, rows-more (bytesOf row) (row .rows .i) (omega arith) (passed (c .before .before)) ordered ∙ row .rows .inv .1 .1))
 
@@ -150,7 +140,7 @@ returns-2 c =
 
 returns-3 : tie.Need-returns-3 Inv-loop μ-loop Inv-rows μ-rows
 returns-3 c =
-    let row = c .before .before .before .before .before .before .before .before in
+    let row = rowDone (c .before .before) in
     let disorder = sym (c .before .not-above .ensures) ∙ c .if2 .taken in
     sym (order-fault (bytesOf row) (row .rows .i) (omega arith) (passed (c .before .before)) disorder) ∙ row .rows .inv .1 .1
 
@@ -162,25 +152,21 @@ check-rows-spec =
     μ-loop
     Inv-rows
     μ-rows
-    header-field-requires
-    header-field-requires-2
     row-limits-requires
     rows-holds
-    unit-field-requires
-    unit-field-requires-2
     row-ranges-requires
     loop-holds
     mul-range
     array-copy-out-range
     add-unit-field
-    unit-field-requires-3
+    unit-field-requires
     within-requires
-    cast-t22
+    cast-t18
     add-k
     loop-less
     loop-again
     not-above-requires
-    cast-t25
+    cast-t21
     add-i
     rows-less
     rows-again

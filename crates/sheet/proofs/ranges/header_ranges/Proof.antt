@@ -1,9 +1,13 @@
-use mathlib.Core.List.{[], _∷_}
-use Rattle.sheet.specs.Check.{_to_}
-use Rattle.sheet.specs.Inner.FieldRanges.{headerRanges}
+use Rattle.sheet.specs.Check.{headerTests}
 use borrow.Author.Needs.{needs}
 use Rattle.sheet.proofs.ranges.header_ranges.Statement.{statement}
 use Rattle.sheet.proofs.ranges.header_ranges.Tie as tie
+
+header-field-requires : tie.Need-header-field-requires
+header-field-requires c κs = search needs
+
+header-field-requires-2 : tie.Need-header-field-requires-2
+header-field-requires-2 c κs = search needs
 
 by-source-requires : tie.Need-by-source-requires
 by-source-requires c κs = search needs
@@ -27,32 +31,27 @@ by-source-requires-4 : tie.Need-by-source-requires-4
 by-source-requires-4 c κs = search needs
 
 returns : tie.Need-returns
-unfolding headerRanges
+unfolding headerTests
 returns c =
-    let other = c .before .before .before .before .before .before .by-source .ensures in
-    λ i. 1 to 12
-    ∷ 1 to 5
-    ∷ 1 to 160
-    ∷ 0 to 3
-    ∷ c .before .before .before .before .before .by-model .ensures i
-    ∷ c .before .before .before .before .by-model2 .ensures i
-    ∷ c .before .before .before .by-source2 .ensures i
-    ∷ c .before .before .by-model3 .ensures i
-    ∷ c .before .by-source3 .ensures i
-    ∷ 0 to 4000000000
-    ∷ 0 to 100000
-    ∷ c .by-source4 .ensures i
-    ∷ other i
-    ∷ other i
-    ∷ other i
-    ∷ other i
-    ∷ other i
-    ∷ []
+    let other = c .before .before .before .before .before .before in
+    rw (
+      other .by-source .ensures,
+      c .before .before .before .before .before .by-model .ensures,
+      c .before .before .before .before .by-model2 .ensures,
+      c .before .before .before .by-source2 .ensures,
+      c .before .before .by-model3 .ensures,
+      c .before .by-source3 .ensures,
+      c .by-source4 .ensures,
+      other .before .before .header-field .ensures,
+      other .before .header-field2 .ensures,
+    )
 
 pub header-ranges-spec : {M : Type 1} → statement M
 header-ranges-spec =
     tie.close
     (tie.spec
+    header-field-requires
+    header-field-requires-2
     by-source-requires
     by-model-requires
     by-model-requires-2
