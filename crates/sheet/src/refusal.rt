@@ -28,54 +28,42 @@ pub enum Outcome {
     Refused(Refusal),
 }
 
-// The document's number.
-pub fn number(r: Refusal) -> u32
-    ensures { λ n. ⌜ n ≡ numberOf r ⌝ }
+// What a refusal tells: the document's number, and the row from 0 for 6 and 7, else 0.
+struct Told(u32, u32);
+
+fn told_by(r: Refusal) -> Told
+    ensures { λ t. ⌜ (t .0 ≡ numberOf r) × (t .1 ≡ placeOf r) ⌝ }
 {
     match r {
-        Refusal::TooShort => 1,
-        Refusal::BadMagic => 2,
-        Refusal::UnsupportedVersion => 3,
-        Refusal::HeaderField => 4,
-        Refusal::WrongLength => 5,
-        Refusal::RowField(_) => 6,
-        Refusal::IdOrder(_) => 7,
-        Refusal::HotWaterExceedsMeter => 8,
-        Refusal::ZeroDivisor => 9,
-        Refusal::NoReadings => 10,
-        Refusal::MetersExceedHeat => 11,
-        Refusal::UnmeteredExceedsHeat => 12,
-        Refusal::BufferLength => 13,
-        Refusal::BadArchive => 14,
-        Refusal::BadYearBook => 15,
-        Refusal::OtherBuilding => 16,
-        Refusal::MonthState => 17,
-        Refusal::NoSuchUnit => 18,
+        Refusal::TooShort => Told(1, 0),
+        Refusal::BadMagic => Told(2, 0),
+        Refusal::UnsupportedVersion => Told(3, 0),
+        Refusal::HeaderField => Told(4, 0),
+        Refusal::WrongLength => Told(5, 0),
+        Refusal::RowField(i) => Told(6, i),
+        Refusal::IdOrder(i) => Told(7, i),
+        Refusal::HotWaterExceedsMeter => Told(8, 0),
+        Refusal::ZeroDivisor => Told(9, 0),
+        Refusal::NoReadings => Told(10, 0),
+        Refusal::MetersExceedHeat => Told(11, 0),
+        Refusal::UnmeteredExceedsHeat => Told(12, 0),
+        Refusal::BufferLength => Told(13, 0),
+        Refusal::BadArchive => Told(14, 0),
+        Refusal::BadYearBook => Told(15, 0),
+        Refusal::OtherBuilding => Told(16, 0),
+        Refusal::MonthState => Told(17, 0),
+        Refusal::NoSuchUnit => Told(18, 0),
     }
 }
 
-// The row from 0 for 6 and 7, else 0.
+pub fn number(r: Refusal) -> u32
+    ensures { λ n. ⌜ n ≡ numberOf r ⌝ }
+{
+    told_by(r).0
+}
+
 pub fn place(r: Refusal) -> u32
     ensures { λ n. ⌜ n ≡ placeOf r ⌝ }
 {
-    match r {
-        Refusal::RowField(i) => i,
-        Refusal::IdOrder(i) => i,
-        Refusal::TooShort => 0,
-        Refusal::BadMagic => 0,
-        Refusal::UnsupportedVersion => 0,
-        Refusal::HeaderField => 0,
-        Refusal::WrongLength => 0,
-        Refusal::HotWaterExceedsMeter => 0,
-        Refusal::ZeroDivisor => 0,
-        Refusal::NoReadings => 0,
-        Refusal::MetersExceedHeat => 0,
-        Refusal::UnmeteredExceedsHeat => 0,
-        Refusal::BufferLength => 0,
-        Refusal::BadArchive => 0,
-        Refusal::BadYearBook => 0,
-        Refusal::OtherBuilding => 0,
-        Refusal::MonthState => 0,
-        Refusal::NoSuchUnit => 0,
-    }
+    told_by(r).1
 }

@@ -1,14 +1,12 @@
-use mathlib.Core.Path.{ap, sym}
+use mathlib.Core.Path.{_≡_, ap, sym}
 use borrow.Author.Needs.{needs}
-use Rattle.sheet.specs.Refusals.{placeOf}
-use Rattle.sheet.proofs.refusal.place.Statement.{statement}
-use Rattle.sheet.proofs.refusal.place.Tie as tie
+use Rattle.sheet.specs.declared.refusal.Refusal.{Refusal}
+use Rattle.sheet.specs.Refusals.{numberOf, placeOf}
+use Rattle.sheet.proofs.refusal.told_by.Statement.{statement}
+use Rattle.sheet.proofs.refusal.told_by.Tie as tie
 
-enum-known-r : tie.Need-enum-known-r
-enum-known-r c = search needs
-
-enum-known-r-2 : tie.Need-enum-known-r-2
-enum-known-r-2 c = search needs
+told : {r v : Refusal} → r ≡ v → (numberOf v ≡ numberOf r) × (placeOf v ≡ placeOf r)
+told e = (ap numberOf (sym e), ap placeOf (sym e))
 
 enum-told : tie.Need-enum-told
 enum-told c = search needs
@@ -24,6 +22,12 @@ enum-told-4 c = search needs
 
 enum-told-5 : tie.Need-enum-told-5
 enum-told-5 c = search needs
+
+enum-known-r : tie.Need-enum-known-r
+enum-known-r c = search needs
+
+enum-known-r-2 : tie.Need-enum-known-r-2
+enum-known-r-2 c = search needs
 
 enum-told-6 : tie.Need-enum-told-6
 enum-told-6 c = search needs
@@ -59,70 +63,70 @@ enum-told-16 : tie.Need-enum-told-16
 enum-told-16 c = search needs
 
 returns : tie.Need-returns
-returns c = ap placeOf (sym (c .before .r .given .1))
+returns c = told (c .enum-told .given .1)
 
 returns-2 : tie.Need-returns-2
-returns-2 c = ap placeOf (sym (c .before .r2 .given .1))
+returns-2 c = told (c .enum-told2 .given .1)
 
 returns-3 : tie.Need-returns-3
-returns-3 c = ap placeOf (sym (c .enum-told .given .1))
+returns-3 c = told (c .enum-told3 .given .1)
 
 returns-4 : tie.Need-returns-4
-returns-4 c = ap placeOf (sym (c .enum-told2 .given .1))
+returns-4 c = told (c .enum-told4 .given .1)
 
 returns-5 : tie.Need-returns-5
-returns-5 c = ap placeOf (sym (c .enum-told3 .given .1))
+returns-5 c = told (c .enum-told5 .given .1)
 
 returns-6 : tie.Need-returns-6
-returns-6 c = ap placeOf (sym (c .enum-told4 .given .1))
+returns-6 c = told (c .before .r .given .1)
 
 returns-7 : tie.Need-returns-7
-returns-7 c = ap placeOf (sym (c .enum-told5 .given .1))
+returns-7 c = told (c .before .r2 .given .1)
 
 returns-8 : tie.Need-returns-8
-returns-8 c = ap placeOf (sym (c .enum-told6 .given .1))
+returns-8 c = told (c .enum-told6 .given .1)
 
 returns-9 : tie.Need-returns-9
-returns-9 c = ap placeOf (sym (c .enum-told7 .given .1))
+returns-9 c = told (c .enum-told7 .given .1)
 
 returns-10 : tie.Need-returns-10
-returns-10 c = ap placeOf (sym (c .enum-told8 .given .1))
+returns-10 c = told (c .enum-told8 .given .1)
 
 returns-11 : tie.Need-returns-11
-returns-11 c = ap placeOf (sym (c .enum-told9 .given .1))
+returns-11 c = told (c .enum-told9 .given .1)
 
 returns-12 : tie.Need-returns-12
-returns-12 c = ap placeOf (sym (c .enum-told10 .given .1))
+returns-12 c = told (c .enum-told10 .given .1)
 
 returns-13 : tie.Need-returns-13
-returns-13 c = ap placeOf (sym (c .enum-told11 .given .1))
+returns-13 c = told (c .enum-told11 .given .1)
 
 returns-14 : tie.Need-returns-14
-returns-14 c = ap placeOf (sym (c .enum-told12 .given .1))
+returns-14 c = told (c .enum-told12 .given .1)
 
 returns-15 : tie.Need-returns-15
-returns-15 c = ap placeOf (sym (c .enum-told13 .given .1))
+returns-15 c = told (c .enum-told13 .given .1)
 
 returns-16 : tie.Need-returns-16
-returns-16 c = ap placeOf (sym (c .enum-told14 .given .1))
+returns-16 c = told (c .enum-told14 .given .1)
 
 returns-17 : tie.Need-returns-17
-returns-17 c = ap placeOf (sym (c .enum-told15 .given .1))
+returns-17 c = told (c .enum-told15 .given .1)
 
 returns-18 : tie.Need-returns-18
-returns-18 c = ap placeOf (sym (c .enum-told16 .given .1))
+returns-18 c = told (c .enum-told16 .given .1)
 
-pub place-spec : {M : Type 1} → statement M
-place-spec =
+pub told-by-spec : {M : Type 1} → statement M
+told-by-spec =
     tie.close
     (tie.spec
-    enum-known-r
-    enum-known-r-2
     enum-told
     enum-told-2
     enum-told-3
     enum-told-4
     enum-told-5
+    enum-known-r
+    enum-known-r-2
     enum-told-6
     enum-told-7
     enum-told-8
