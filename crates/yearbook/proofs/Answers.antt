@@ -15,7 +15,7 @@ use Rattle.sheet.specs.Check.{checked}
 use Rattle.month.specs.Month.{Month, Settled, settleRules, settledSheet}
 use Rattle.month.proofs.Laws.{settled-month}
 use Rattle.yearbook.specs.Calls.{post, replace, withdraw, year, accepted, refused, totals}
-use Rattle.yearbook.specs.LentBook.{unitCountIn, marked, badBook, otherBuilding, sheetCallRules, putSheet, clearMonth, freshBook, openAnswer, bookOpened, postAnswer, bookPosted, replaceAnswer, bookReplaced, withdrawAnswer, bookWithdrawn, yearOutcome, marksIn, yearSums, yearAnswer, lentReply, lentAfter, Opens, Answered, refusedTotals, totalsBy, Tells}
+use Rattle.yearbook.specs.LentBook.{bookLength, unitCountIn, marked, badBook, otherBuilding, sheetCallRules, putSheet, clearMonth, freshBook, openAnswer, bookOpened, postAnswer, bookPosted, replaceAnswer, bookReplaced, withdrawAnswer, bookWithdrawn, yearOutcome, marksIn, yearSums, yearAnswer, lentReply, lentAfter, Opens, Answered, refusedTotals, totalsBy, Tells}
 use Rattle.yearbook.specs.Inner.Code.{bringCall, wrongMonth}
 use Rattle.yearbook.proofs.Settled.{sheet-refused}
 
@@ -34,18 +34,18 @@ first-accepted ((false ⇒ r) ∷ xs) ys e = first-accepted xs ys e
 
 -- ---- open
 module _ (b sheet : List ℕ) where
-  pub open-15 : (length b ≡ 15557 → ⊥) → Opens b sheet (Refused BadYearBook) b
+  pub open-15 : (length b ≡ bookLength → ⊥) → Opens b sheet (Refused BadYearBook) b
   unfolding openAnswer bookOpened firstRefusal
-  open-15 h = let e = ne-eqb (length b) 15557 h in record { answer = rw e; after = rw e }
+  open-15 h = let e = ne-eqb (length b) bookLength h in record { answer = rw e; after = rw e }
 
-  module _ (size : length b ≡ 15557) where
+  module _ (size : length b ≡ bookLength) where
     pub open-refused : (r : Refusal) → checked 32 sheet ≡ Refused r → Opens b sheet (Refused r) b
     unfolding openAnswer bookOpened firstRefusal checked
-    open-refused r h = let e = eq-eqb (length b) 15557 size in record { answer = rw (e, h); after = rw (e, h) }
+    open-refused r h = let e = eq-eqb (length b) bookLength size in record { answer = rw (e, h); after = rw (e, h) }
 
     pub open-accepted : checked 32 sheet ≡ Accepted → Opens b sheet Accepted (freshBook sheet)
     unfolding openAnswer bookOpened firstRefusal checked
-    open-accepted h = let e = eq-eqb (length b) 15557 size in record { answer = rw (e, h); after = rw (e, h) }
+    open-accepted h = let e = eq-eqb (length b) bookLength size in record { answer = rw (e, h); after = rw (e, h) }
 
 -- ---- post and replace
 module _ (replacing : Bool) (b sheet : List ℕ) where

@@ -15,7 +15,7 @@ use Rattle.month.specs.Month.{Month, monthOf, monthRules, Settled, settleRules,
 use Rattle.month.proofs.Laws.{settled-month}
 use Rattle.settlement.specs.declared.settling.Settlement.{Settlement}
 use Rattle.settlement.specs.Settle.{settlementOf}
-use Rattle.yearbook.specs.LentBook.{badBook, putMonth, putSheet}
+use Rattle.yearbook.specs.LentBook.{bookLength, blockLength, badBook, putMonth, putSheet}
 use Rattle.yearbook.specs.Inner.Code.{wrongMark, wrongMonth, HoldsRows, Brings}
 use Rattle.yearbook.proofs.Sound.{book-sound}
 use Rattle.yearbook.proofs.Writes.{put-settled}
@@ -29,7 +29,7 @@ checked-rows sheet n e h =
 
 -- ---- a sheet that settles
 module _ (b sheet : List ℕ) {month n meter bill : ℕ} {block : List ℕ} (h : Brings b sheet month n meter bill block) where
-  pub brings-size : length b ≡ 15557
+  pub brings-size : length b ≡ bookLength
   brings-size = book-sound b (h .sound) .size
 
   pub brings-rows : HoldsRows sheet n
@@ -51,7 +51,7 @@ module _ (b sheet : List ℕ) {month n meter bill : ℕ} {block : List ℕ} (h :
   unfolding monthOf
   brings-wrong replacing = rw (h .month-is)
 
-  pub brings-block : length block ≡ 1280
+  pub brings-block : length block ≡ blockLength
   unfolding monthOf
   brings-block = rw (h .block-is) (block-length sheet (h .settles))
 

@@ -11,7 +11,7 @@ use lib.ListN.{length, getD, take, drop, List·getD-map}
 use Rattle.sheet.specs.Layout.{Sheet, unitRow}
 use Rattle.sheet.specs.Inner.Fields.{unitOf}
 use Rattle.sheet.specs.Check.{sameList}
-use Rattle.yearbook.specs.LentBook.{unitCountIn, otherBuilding}
+use Rattle.yearbook.specs.LentBook.{idsAt, unitCountIn, otherBuilding}
 
 -- ---- two lists are the same
 pub same-lists : (xs ys : List ℕ) → xs ≡ ys → sameList xs ys ≡ true
@@ -55,10 +55,10 @@ module _ (b : List ℕ) (s : Sheet) where
   other-count h = rw (ne-eqb (unitCountIn b) (s .unitCount) h)
 
   module _ (count : unitCountIn b ≡ s .unitCount) where
-    pub other-ids : sameList (take (s .unitCount) (drop 37 b)) (map (λ u. u .id) (s .units)) ≡ false → otherBuilding b s ≡ true
+    pub other-ids : sameList (take (s .unitCount) (drop idsAt b)) (map (λ u. u .id) (s .units)) ≡ false → otherBuilding b s ≡ true
     unfolding otherBuilding
     other-ids e = rw (count, eq-eqb (s .unitCount) (s .unitCount) refl, e)
 
-    pub same-building : sameList (take (s .unitCount) (drop 37 b)) (map (λ u. u .id) (s .units)) ≡ true → otherBuilding b s ≡ false
+    pub same-building : sameList (take (s .unitCount) (drop idsAt b)) (map (λ u. u .id) (s .units)) ≡ true → otherBuilding b s ≡ false
     unfolding otherBuilding
     same-building e = rw (count, eq-eqb (s .unitCount) (s .unitCount) refl, e)

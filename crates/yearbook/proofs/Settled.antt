@@ -13,7 +13,7 @@ use Rattle.month.specs.Month.{Month, Settled, monthOf, statementOf, settleRules
 use Rattle.month.specs.Inner.Accepted.{AcceptedSheet}
 use Rattle.month.proofs.Accepted.{accepted}
 use Rattle.month.proofs.Laws.{settled-month, settled-laws}
-use Rattle.yearbook.specs.LentBook.{padded}
+use Rattle.yearbook.specs.LentBook.{blockLength, padded}
 use Rattle.yearbook.proofs.Writes.{padded-length}
 
 module _ (sheet : List ℕ) where
@@ -38,5 +38,5 @@ module _ (sheet : List ℕ) where
     unfolding monthOf
     statement-length = settled-laws sheet (monthOf (sheetOf sheet)) own-month .count
 
-    pub block-length : length (padded (sheetOf sheet .unitCount) (statementOf (sheetOf sheet))) ≡ 1280
+    pub block-length : length (padded (sheetOf sheet .unitCount) (statementOf (sheetOf sheet))) ≡ blockLength
     block-length = padded-length (sheetOf sheet .unitCount) (statementOf (sheetOf sheet)) (sheet-accepted .checked-sheet .header .unitCount) statement-length

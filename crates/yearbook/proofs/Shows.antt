@@ -14,7 +14,7 @@ use Rattle.sheet.specs.Check.{checked}
 use Rattle.sheet.proofs.Fits.{fits}
 use Rattle.month.specs.Month.{Settled, monthOf, settledSheet, statementOf, billCents}
 use Rattle.yearbook.specs.PlainBook.{PlainBook, openedPlain, nowHolds}
-use Rattle.yearbook.specs.LentBook.{unitCountIn, markAt, meterAt, billAt, blockAt, idsIn, padded, putMonth, putSheet, clearMonth, freshBook}
+use Rattle.yearbook.specs.LentBook.{bookLength, idsAt, blockLength, unitCountIn, markAt, meterAt, billAt, blockAt, idsIn, padded, putMonth, putSheet, clearMonth, freshBook}
 use Rattle.yearbook.specs.Inner.Sound.{Sound}
 use Rattle.yearbook.proofs.Sums.{orZero, IfHeld}
 use Rattle.yearbook.proofs.Stores.{zero-at, zeros-after}
@@ -27,7 +27,7 @@ pub record At (b : List ℕ) (i : ℕ) (held : Option (List ℕ)) : Type 0 where
   pub mark : getD b (markAt i) 0 ≡ orZero (λ s. 1) held
   pub meter : getD b (meterAt i) 0 ≡ orZero (λ s. sheetOf s .sharedMeter) held
   pub bill : getD b (billAt i) 0 ≡ orZero (λ s. billCents (sheetOf s)) held
-  pub block : (k : ℕ) → k < 1280 → getD b (blockAt i + k) 0 ≡ orZero (λ s. getD (statementOf (sheetOf s)) k 0) held
+  pub block : (k : ℕ) → k < blockLength → getD b (blockAt i + k) 0 ≡ orZero (λ s. getD (statementOf (sheetOf s)) k 0) held
 
 -- a sheet of n units that settles
 pub record Good (n : ℕ) (sheet : List ℕ) : Type 0 where
@@ -35,11 +35,11 @@ pub record Good (n : ℕ) (sheet : List ℕ) : Type 0 where
   pub units : sheetOf sheet .unitCount ≡ n
 
 pub record Shows (n : ℕ) (b : List ℕ) (p : PlainBook) : Type 0 where
-  pub size : length b ≡ 15557
+  pub size : length b ≡ bookLength
   pub few : n ≤ 160
   pub count : unitCountIn b ≡ n
   pub plain-count : p .unitCount ≡ n
-  pub ids : (i : ℕ) → i < 160 → getD b (37 + i) 0 ≡ getD (p .ids) i 0
+  pub ids : (i : ℕ) → i < 160 → getD b (idsAt + i) 0 ≡ getD (p .ids) i 0
   pub as-many : length (p .ids) ≡ n
   pub twelve : length (p .months) ≡ 12
   pub months : (i : ℕ) → i < 12 → At b i (getD (p .months) i none)
@@ -58,34 +58,34 @@ module _ {n : ℕ} {b : List ℕ} {p : PlainBook} (h : Shows n b p) where
   pub shows-ids : idsIn b ≡ p .ids
   shows-ids =
       let c = h .count in let few = h .few in let size = h .size in
-      let e : length (take (unitCountIn b) (drop 37 b)) ≡ length (p .ids) = simp (length-take, length-drop) (omega (arith, h .as-many)) in
-      ext-getD 0 (take (unitCountIn b) (drop 37 b)) (p .ids) e (λ i l.
-      let l′ : i < unitCountIn b = omega (arith, length-take (unitCountIn b) (drop 37 b)) in
+      let e : length (take (unitCountIn b) (drop idsAt b)) ≡ length (p .ids) = simp (length-take, length-drop) (omega (arith, h .as-many)) in
+      ext-getD 0 (take (unitCountIn b) (drop idsAt b)) (p .ids) e (λ i l.
+      let l′ : i < unitCountIn b = omega (arith, length-take (unitCountIn b) (drop idsAt b)) in
       rw (getD-take, getD-drop) (h .ids i (omega arith)))
 
 -- ---- a month is written
 -- the statement with zeros after it
 blockOf : Option (List ℕ) → List ℕ
-blockOf none = replicate 1280 0
+blockOf none = replicate blockLength 0
 blockOf (some s) = padded (sheetOf s .unitCount) (statementOf (sheetOf s))
 
 block-at : (held : Option (List ℕ)) (k : ℕ) → getD (blockOf held) k 0 ≡ orZero (λ s. getD (statementOf (sheetOf s)) k 0) held
 unfolding blockOf
-block-at none k = zero-at 1280 k
-block-at (some s) k = zeros-after (statementOf (sheetOf s)) (1280 - 8 * sheetOf s .unitCount) k
+block-at none k = zero-at blockLength k
+block-at (some s) k = zeros-after (statementOf (sheetOf s)) (blockLength - 8 * sheetOf s .unitCount) k
 
-block-full : (n : ℕ) (held : Option (List ℕ)) → IfHeld (Good n) held → length (blockOf held) ≡ 1280
+block-full : (n : ℕ) (held : Option (List ℕ)) → IfHeld (Good n) held → length (blockOf held) ≡ blockLength
 unfolding blockOf
-block-full n none g = length-replicate {A = ℕ} 1280 0
+block-full n none g = length-replicate {A = ℕ} blockLength 0
 block-full n (some s) g = block-length s (g .settles)
 
 put : List ℕ → ℕ → Option (List ℕ) → List ℕ
 put b i held = putMonth b i (orZero (λ s. 1) held) (orZero (λ s. sheetOf s .sharedMeter) held) (orZero (λ s. billCents (sheetOf s)) held) (blockOf held)
 
-outside : (i k x : ℕ) → k ≢ i → x < 1280 → (blockAt k + x < blockAt i) ⊎ (blockAt i + 1280 ≤ blockAt k + x)
+outside : (i k x : ℕ) → k ≢ i → x < blockLength → (blockAt k + x < blockAt i) ⊎ (blockAt i + blockLength ≤ blockAt k + x)
 outside i k x d h = elim (decLt k i) [ yes l ↦ inl (omega arith) | no l ↦ inr (omega arith) ]
 
-module _ (b : List ℕ) (size : length b ≡ 15557) (i : ℕ) (low : i < 12) (held : Option (List ℕ)) (full : length (blockOf held) ≡ 1280) where
+module _ (b : List ℕ) (size : length b ≡ bookLength) (i : ℕ) (low : i < 12) (held : Option (List ℕ)) (full : length (blockOf held) ≡ blockLength) where
   at-same : At (put b i held) i held
   unfolding put
   at-same = record {
@@ -95,7 +95,7 @@ module _ (b : List ℕ) (size : length b ≡ 15557) (i : ℕ) (low : i < 12) (he
     block = λ k h. put-block b size i low _ _ _ _ full k h ∙ block-at held k;
   }
 
-  stays : (x : ℕ) → x ≢ markAt i → x ≢ meterAt i → x ≢ billAt i → (x < blockAt i) ⊎ (blockAt i + 1280 ≤ x) → getD (put b i held) x 0 ≡ getD b x 0
+  stays : (x : ℕ) → x ≢ markAt i → x ≢ meterAt i → x ≢ billAt i → (x < blockAt i) ⊎ (blockAt i + blockLength ≤ x) → getD (put b i held) x 0 ≡ getD b x 0
   unfolding put
   stays = put-other b size i low _ _ _ _ full
 
@@ -112,7 +112,7 @@ module _ {n : ℕ} {b : List ℕ} {p : PlainBook} (h : Shows n b p) (month : ℕ
     low : month - 1 < 12
     low = omega arith
 
-    full : length (blockOf held) ≡ 1280
+    full : length (blockOf held) ≡ blockLength
     full = block-full n held g
 
     months-after : (k : ℕ) → k < 12 → Dec (k ≡ month - 1) → At (put b (month - 1) held) k (getD (set (p .months) (month - 1) held) k none)
@@ -132,7 +132,7 @@ module _ {n : ℕ} {b : List ℕ} {p : PlainBook} (h : Shows n b p) (month : ℕ
           few = h .few;
           count = st 0 (omega arith) (omega arith) (omega arith) (inl (omega arith)) ∙ h .count;
           plain-count = h .plain-count;
-          ids = λ k l. st (37 + k) (omega arith) (omega arith) (omega arith) (inl (omega arith)) ∙ h .ids k l;
+          ids = λ k l. st (idsAt + k) (omega arith) (omega arith) (omega arith) (inl (omega arith)) ∙ h .ids k l;
           as-many = h .as-many;
           twelve = rw length-set (h .twelve);
           months = λ k l. months-after k l (ℕ-discrete k (month - 1));

@@ -9,7 +9,7 @@ use borrow.Author.Tests.{lt-ltb, le-ltb, ltb-false, eq-eqb, ne-eqb, eqb-true, no
 use lib.ListN.{length, getD, take, drop, length-take}
 use lib.Seq.{getD-take, getD-drop}
 use Rattle.sheet.specs.Tests.{any}
-use Rattle.yearbook.specs.LentBook.{unitCountIn, markAt, badBook}
+use Rattle.yearbook.specs.LentBook.{bookLength, unitCountIn, markAt, badBook}
 use Rattle.yearbook.specs.Inner.Sound.{Sound}
 
 pub neither : (s t : Bool) → (s || t) ≡ false → (s ≡ false) × (t ≡ false)
@@ -51,33 +51,33 @@ module _ (b : List ℕ) where
   mark-at i h = getD-take 12 (drop 1 b) i 0 h ∙ getD-drop 1 b i 0
 
   -- ---- 15, test by test
-  pub bad-length : (length b ≡ 15557 → ⊥) → badBook b ≡ true
+  pub bad-length : (length b ≡ bookLength → ⊥) → badBook b ≡ true
   unfolding badBook
-  bad-length h = rw (ne-eqb (length b) 15557 h)
+  bad-length h = rw (ne-eqb (length b) bookLength h)
 
-  pub bad-units : length b ≡ 15557 → 160 < unitCountIn b → badBook b ≡ true
+  pub bad-units : length b ≡ bookLength → 160 < unitCountIn b → badBook b ≡ true
   unfolding badBook
-  bad-units e h = rw (eq-eqb (length b) 15557 e, lt-ltb 160 (unitCountIn b) h)
+  bad-units e h = rw (eq-eqb (length b) bookLength e, lt-ltb 160 (unitCountIn b) h)
 
-  pub bad-mark : length b ≡ 15557 → unitCountIn b ≤ 160 → (i : ℕ) → i < 12 → 1 < getD b (markAt i) 0 → badBook b ≡ true
+  pub bad-mark : length b ≡ bookLength → unitCountIn b ≤ 160 → (i : ℕ) → i < 12 → 1 < getD b (markAt i) 0 → badBook b ≡ true
   unfolding badBook marks
-  bad-mark e h i l m = rw (eq-eqb (length b) 15557 e, le-ltb 160 (unitCountIn b) h) (some-over marks i (omega (arith, mark-at i l)))
+  bad-mark e h i l m = rw (eq-eqb (length b) bookLength e, le-ltb 160 (unitCountIn b) h) (some-over marks i (omega (arith, mark-at i l)))
 
   -- ---- not 15
   pub sound-book : Sound b → badBook b ≡ false
   unfolding badBook marks
   sound-book s =
       let few : length marks ≤ 12 = omega (arith, length-take 12 (drop 1 b)) in
-      rw (eq-eqb (length b) 15557 (s .size), le-ltb 160 (unitCountIn b) (s .few-units))
+      rw (eq-eqb (length b) bookLength (s .size), le-ltb 160 (unitCountIn b) (s .few-units))
       (none-over marks (λ i h. let l : i < 12 = omega arith in omega (arith, mark-at i l, s .marks i l)))
 
   pub book-sound : badBook b ≡ false → Sound b
   unfolding badBook marks
   book-sound e =
-      let p = neither (not (eqb (length b) 15557) || ltb 160 (unitCountIn b)) _ e in
-      let q = neither (not (eqb (length b) 15557)) _ (p .0) in
+      let p = neither (not (eqb (length b) bookLength) || ltb 160 (unitCountIn b)) _ e in
+      let q = neither (not (eqb (length b) bookLength)) _ (p .0) in
       record {
-        size = eqb-true (length b) 15557 (not-false (eqb (length b) 15557) (q .0));
+        size = eqb-true (length b) bookLength (not-false (eqb (length b) bookLength) (q .0));
         few-units = ltb-false 160 (unitCountIn b) (q .1);
         marks = λ i h. omega (arith, mark-at i h, not-over marks (p .1) i);
       }

@@ -21,7 +21,7 @@ use Rattle.month.proofs.Laws.{settled-month}
 use Rattle.month.proofs.Lists.{sumTo-cong}
 use Rattle.yearbook.specs.Calls.{Call, post, replace, withdraw, year, Reply}
 use Rattle.yearbook.specs.PlainBook.{PlainBook, Step, hasSheet, stands, standing, sheetsOf, notKept, refuse, tell, nowHolds, brought, withdrawn, told, called, numberIn, unitSums}
-use Rattle.yearbook.specs.LentBook.{unitCountIn, markAt, marked, badBook, otherBuilding, ifMarked, marksIn, blockSum, yearSums, placeOfMonth, lentReply, lentAfter, Answered}
+use Rattle.yearbook.specs.LentBook.{blockLength, unitCountIn, markAt, marked, badBook, otherBuilding, ifMarked, marksIn, blockSum, yearSums, placeOfMonth, lentReply, lentAfter, Answered}
 use Rattle.yearbook.proofs.Sums.{orZero, sum-held, sum-ones, eight-cong}
 use Rattle.yearbook.proofs.Sound.{neither, sound-book}
 use Rattle.yearbook.proofs.Settled.{own-month, sheet-accepted}
@@ -127,7 +127,7 @@ module _ {n : ℕ} {b : List ℕ} {p : PlainBook} (h : Shows n b p) where
       ∙ sum-held (p .months) (λ s. 1)
       ∙ sum-ones (sheetsOf (p .months))
 
-  block-sum-so : (at : ℕ) → at < 1280 → blockSum b at ≡ sum (map (λ s. getD (statementOf (sheetOf s)) at 0) (standing p))
+  block-sum-so : (at : ℕ) → at < blockLength → blockSum b at ≡ sum (map (λ s. getD (statementOf (sheetOf s)) at 0) (standing p))
   unfolding blockSum
   block-sum-so at l =
       let f : List ℕ → ℕ = λ s. getD (statementOf (sheetOf s)) at 0 in

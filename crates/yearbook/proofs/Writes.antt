@@ -14,7 +14,7 @@ use Rattle.sheet.proofs.Units.{units-count}
 use Rattle.month.specs.Month.{Month, Settled, monthOf, settledSheet}
 use Rattle.month.proofs.Laws.{settled-month}
 use Rattle.yearbook.specs.Calls.{Call, post, replace, withdraw, year}
-use Rattle.yearbook.specs.LentBook.{unitCountIn, markAt, meterAt, billAt, blockAt, padded, putMonth, putSheet, clearMonth, zeroBook, freshBook, afterwards, postAnswer, bookPosted, replaceAnswer, bookReplaced, withdrawAnswer, bookWithdrawn, lentAfter}
+use Rattle.yearbook.specs.LentBook.{bookLength, idsAt, blockLength, unitCountIn, markAt, meterAt, billAt, blockAt, padded, putMonth, putSheet, clearMonth, zeroBook, freshBook, afterwards, postAnswer, bookPosted, replaceAnswer, bookReplaced, withdrawAnswer, bookWithdrawn, lentAfter}
 use Rattle.yearbook.proofs.Stores.{getD-sets-below, getD-sets-above, getD-sets-in, zero-at}
 
 -- ---- a month: its mark, M, bill and block
@@ -22,10 +22,10 @@ pub put-length : (b : List ℕ) (i mark meter bill : ℕ) (block : List ℕ) →
 unfolding putMonth
 put-length b i mark meter bill block = simp (length-sets, length-set)
 
-pub padded-length : (n : ℕ) (numbers : List ℕ) → n ≤ 160 → length numbers ≡ 8 * n → length (padded n numbers) ≡ 1280
+pub padded-length : (n : ℕ) (numbers : List ℕ) → n ≤ 160 → length numbers ≡ 8 * n → length (padded n numbers) ≡ blockLength
 padded-length n numbers h e = simp (length-append, length-replicate) (omega arith)
 
-module _ (b : List ℕ) (size : length b ≡ 15557) (i : ℕ) (low : i < 12) (mark meter bill : ℕ) (block : List ℕ) (full : length block ≡ 1280) where
+module _ (b : List ℕ) (size : length b ≡ bookLength) (i : ℕ) (low : i < 12) (mark meter bill : ℕ) (block : List ℕ) (full : length block ≡ blockLength) where
   pub put-mark : getD (putMonth b i mark meter bill block) (markAt i) 0 ≡ mark
   unfolding putMonth
   put-mark =
@@ -47,27 +47,27 @@ module _ (b : List ℕ) (size : length b ≡ 15557) (i : ℕ) (low : i < 12) (ma
       let h₂ : billAt i < length (set (set b (markAt i) mark) (meterAt i) meter) = simp length-set (omega arith) in
       simp (getD-sets-below, getD-set-same)
 
-  pub put-block : (k : ℕ) → k < 1280 → getD (putMonth b i mark meter bill block) (blockAt i + k) 0 ≡ getD block k 0
+  pub put-block : (k : ℕ) → k < blockLength → getD (putMonth b i mark meter bill block) (blockAt i + k) 0 ≡ getD block k 0
   unfolding putMonth
   put-block k h = getD-sets-in block _ (blockAt i) k (omega arith) (simp length-set (omega arith))
 
   -- everything else stays
-  pub put-other : (x : ℕ) → x ≢ markAt i → x ≢ meterAt i → x ≢ billAt i → (x < blockAt i) ⊎ (blockAt i + 1280 ≤ x) → getD (putMonth b i mark meter bill block) x 0 ≡ getD b x 0
+  pub put-other : (x : ℕ) → x ≢ markAt i → x ≢ meterAt i → x ≢ billAt i → (x < blockAt i) ⊎ (blockAt i + blockLength ≤ x) → getD (putMonth b i mark meter bill block) x 0 ≡ getD b x 0
   unfolding putMonth
   put-other x p q r (inl h) = simp (getD-sets-below, getD-set-other)
   put-other x p q r (inr h) = let h′ : blockAt i + length block ≤ x = omega arith in simp (getD-sets-above, getD-set-other)
 
 -- ---- a fresh book
-pub zero-length : length zeroBook ≡ 15557
+pub zero-length : length zeroBook ≡ bookLength
 unfolding zeroBook
-zero-length = length-replicate {A = ℕ} 15557 0
+zero-length = length-replicate {A = ℕ} bookLength 0
 
 pub zero-book-at : (x : ℕ) → getD zeroBook x 0 ≡ 0
 unfolding zeroBook
-zero-book-at x = zero-at 15557 x
+zero-book-at x = zero-at bookLength x
 
 -- a list of 15,557 numbers that are all 0
-pub all-zero : (b : List ℕ) → length b ≡ 15557 → ((x : ℕ) → x < 15557 → getD b x 0 ≡ 0) → b ≡ zeroBook
+pub all-zero : (b : List ℕ) → length b ≡ bookLength → ((x : ℕ) → x < bookLength → getD b x 0 ≡ 0) → b ≡ zeroBook
 all-zero b size h = ext-getD 0 b zeroBook (size ∙ sym zero-length) (λ x l. h x (omega arith) ∙ sym (zero-book-at x))
 
 module _ (sheet : List ℕ) where
@@ -77,29 +77,29 @@ module _ (sheet : List ℕ) where
   pub ids-length : length (map (λ u. u .id) (sheetOf sheet .units)) ≡ sheetOf sheet .unitCount
   ids-length = length-map (sheetOf sheet .units) (λ u. u .id) ∙ units-count sheet
 
-  pub fresh-length : length (freshBook sheet) ≡ 15557
+  pub fresh-length : length (freshBook sheet) ≡ bookLength
   unfolding freshBook
   fresh-length = simp (length-sets, length-set) zero-length
 
   pub fresh-count : unitCountIn (freshBook sheet) ≡ sheetOf sheet .unitCount
   unfolding freshBook ids
-  fresh-count = getD-sets-below ids _ 37 0 (omega arith) ∙ getD-set-same zeroBook 0 _ 0 (omega (arith, zero-length))
+  fresh-count = getD-sets-below ids _ idsAt 0 (omega arith) ∙ getD-set-same zeroBook 0 _ 0 (omega (arith, zero-length))
 
   -- the marks, M and bills
-  pub fresh-low : (x : ℕ) → 0 < x → x < 37 → getD (freshBook sheet) x 0 ≡ 0
+  pub fresh-low : (x : ℕ) → 0 < x → x < idsAt → getD (freshBook sheet) x 0 ≡ 0
   unfolding freshBook ids
-  fresh-low x h l = getD-sets-below ids _ 37 x l ∙ getD-set-other zeroBook 0 x _ 0 (omega arith) ∙ zero-book-at x
+  fresh-low x h l = getD-sets-below ids _ idsAt x l ∙ getD-set-other zeroBook 0 x _ 0 (omega arith) ∙ zero-book-at x
 
   -- what stands behind the ids
-  pub fresh-high : (x : ℕ) → 37 + sheetOf sheet .unitCount ≤ x → getD (freshBook sheet) x 0 ≡ 0
+  pub fresh-high : (x : ℕ) → idsAt + sheetOf sheet .unitCount ≤ x → getD (freshBook sheet) x 0 ≡ 0
   unfolding freshBook ids
-  fresh-high x h = getD-sets-above ids _ 37 x (omega (arith, ids-length)) ∙ getD-set-other zeroBook 0 x _ 0 (omega arith) ∙ zero-book-at x
+  fresh-high x h = getD-sets-above ids _ idsAt x (omega (arith, ids-length)) ∙ getD-set-other zeroBook 0 x _ 0 (omega arith) ∙ zero-book-at x
 
-  pub fresh-id : sheetOf sheet .unitCount ≤ 160 → (i : ℕ) → getD (freshBook sheet) (37 + i) 0 ≡ getD (map (λ u. u .id) (sheetOf sheet .units)) i 0
+  pub fresh-id : sheetOf sheet .unitCount ≤ 160 → (i : ℕ) → getD (freshBook sheet) (idsAt + i) 0 ≡ getD (map (λ u. u .id) (sheetOf sheet .units)) i 0
   unfolding freshBook ids
   fresh-id few i = elim (decLt i (sheetOf sheet .unitCount)) [
-    | yes h ↦ getD-sets-in ids (set zeroBook 0 (sheetOf sheet .unitCount)) 37 i (omega (arith, ids-length)) (rw length-set (omega (arith, ids-length, zero-length)))
-    | no h ↦ fresh-high (37 + i) (omega arith) ∙ sym (List·getD-eq-default ids 0 (omega (arith, ids-length)))
+    | yes h ↦ getD-sets-in ids (set zeroBook 0 (sheetOf sheet .unitCount)) idsAt i (omega (arith, ids-length)) (rw length-set (omega (arith, ids-length, zero-length)))
+    | no h ↦ fresh-high (idsAt + i) (omega arith) ∙ sym (List·getD-eq-default ids 0 (omega (arith, ids-length)))
   ]
 
 -- ---- every call keeps the length

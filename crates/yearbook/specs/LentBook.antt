@@ -21,6 +21,9 @@ use Rattle.yearbook.specs.declared.totals.YearTotals.{YearTotals}
 use Rattle.yearbook.specs.Calls.{Call, post, replace, withdraw, year, Reply, refused, totals, eight, replyOf}
 
 -- ---- the layout; a month's place i is its number less 1
+abbrev pub bookLength : ℕ
+bookLength = 15557
+
 abbrev pub unitCountIn : List ℕ → ℕ
 unitCountIn b = getD b 0 0  -- 0: n
 
@@ -33,11 +36,17 @@ meterAt i = 13 + i  -- 13–24: M
 abbrev pub billAt : ℕ → ℕ
 billAt i = 25 + i  -- 25–36: bills
 
+abbrev pub idsAt : ℕ
+idsAt = 37  -- 37–196: ids
+
 abbrev pub idsIn : List ℕ → List ℕ
-idsIn b = take (unitCountIn b) (drop 37 b)  -- 37–196: ids, the first n
+idsIn b = take (unitCountIn b) (drop idsAt b)  -- the first n
+
+abbrev pub blockLength : ℕ
+blockLength = 1280
 
 abbrev pub blockAt : ℕ → ℕ
-blockAt i = 197 + 1280 * i  -- from 197 on: 12 blocks of 1,280 statement numbers
+blockAt i = 197 + blockLength * i  -- from 197 on: 12 blocks of 1,280 statement numbers
 
 -- the place of a sheet's month
 abbrev pub placeOfMonth : List ℕ → ℕ
@@ -50,7 +59,7 @@ marked b i = eqb (getD b (markAt i) 0) 1
 -- ---- refusals
 -- 15: not 15,557 numbers
 abbrev pub wrongSize : List ℕ → Bool
-wrongSize b = not (eqb (length b) 15557)
+wrongSize b = not (eqb (length b) bookLength)
 
 -- except at opening, n over 160 or a mark over 1
 unfoldable pub badBook : List ℕ → Bool
@@ -69,7 +78,7 @@ sheetCallRules b sheet wrongMonth =
 -- ---- writes
 -- the numbers of a statement of n units, zero after 8n
 abbrev pub padded : ℕ → List ℕ → List ℕ
-padded n numbers = numbers ++ replicate (1280 - 8 * n) 0
+padded n numbers = numbers ++ replicate (blockLength - 8 * n) 0
 
 -- a month's mark, M, bill and block
 unfoldable pub putMonth : List ℕ → ℕ → (mark meter bill : ℕ) → (block : List ℕ) → List ℕ
@@ -81,14 +90,14 @@ putSheet b sheet = let s = sheetOf sheet in putMonth b (placeOfMonth sheet) 1 (s
 
 -- withdrawing zeroes all four
 unfoldable pub clearMonth : List ℕ → ℕ → List ℕ
-clearMonth b month = putMonth b (month - 1) 0 0 0 (replicate 1280 0)
+clearMonth b month = putMonth b (month - 1) 0 0 0 (replicate blockLength 0)
 
 -- opening writes n and ids, all else 0
 unfoldable pub zeroBook : List ℕ
-zeroBook = replicate 15557 0
+zeroBook = replicate bookLength 0
 
 unfoldable pub freshBook : List ℕ → List ℕ
-freshBook sheet = let s = sheetOf sheet in sets (set zeroBook 0 (s .unitCount)) 37 (map (λ u. u .id) (s .units))
+freshBook sheet = let s = sheetOf sheet in sets (set zeroBook 0 (s .unitCount)) idsAt (map (λ u. u .id) (s .units))
 
 -- a refused call keeps the list
 abbrev pub afterwards : Outcome → (before written : List ℕ) → List ℕ

@@ -16,7 +16,7 @@ use Rattle.month.specs.Portions.{energyPortion, billPart}
 use Rattle.month.specs.Laws.{sumTo}
 use Rattle.yearbook.specs.Calls.{Call, year, Reply, totals}
 use Rattle.yearbook.specs.PlainBook.{PlainBook, openedPlain, standing, unitSums, plainReplies, plainAfter}
-use Rattle.yearbook.specs.LentBook.{Opens, Answered}
+use Rattle.yearbook.specs.LentBook.{bookLength, Opens, Answered}
 
 -- Calls on the list b with their replies, and the list that they leave, each as its contract says.
 -- "Each call gets the book as the last one left it, and nobody else writes it meanwhile."
@@ -52,7 +52,7 @@ pub record YearBook (opening : List ℕ) (o : Outcome) (calls : List Call) (repl
 abbrev pub EveryListOfCalls : Type 0
 EveryListOfCalls =
     (before opening start b : List ℕ) (o : Outcome) (calls : List Call) (replies : List Reply)
-    → length before ≡ 15557
+    → length before ≡ bookLength
     → checked 32 opening ≡ Accepted
     → Opens before opening o start
     → CallsMade start calls replies b

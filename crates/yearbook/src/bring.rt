@@ -7,9 +7,9 @@ ghost use lib.ListN.{length, take, drop};
 ghost use Rattle.sheet.specs.Layout.{sheetOf};
 ghost use Rattle.sheet.specs.Check.{sameList};
 ghost use Rattle.yearbook.specs.Calls.{replyOf};
-ghost use Rattle.yearbook.specs.LentBook.{otherBuilding, Answered};
+ghost use Rattle.yearbook.specs.LentBook.{bookLength, idsAt, otherBuilding, Answered};
 ghost use Rattle.yearbook.specs.Inner.Code.{bringCall, wrongMark, HoldsRows, Brings};
-use crate::lent;
+use crate::layout;
 use crate::months;
 use sheet::Outcome;
 use sheet::Refusal;
@@ -17,11 +17,11 @@ use sheet::rows;
 
 // Whether the sheet's n ids are the book's.
 fn same_ids(book: &[u32], sheet: &[u8], n: usize) -> bool
-    requires { ⌜ (length (now book) ≡ 15557) × HoldsRows (now sheet) n ⌝ }
-    ensures { λ r. ⌜ r ≡ sameList (take n (drop 37 (now (book .entry)))) (map (λ u. u .id) (sheetOf (now (sheet .entry)) .units)) ⌝ }
+    requires { ⌜ (length (now book) ≡ bookLength) × HoldsRows (now sheet) n ⌝ }
+    ensures { λ r. ⌜ r ≡ sameList (take n (drop idsAt (now (book .entry)))) (map (λ u. u .id) (sheetOf (now (sheet .entry)) .units)) ⌝ }
 {
     for i in 0..n {
-        if book[37 + i] != rows::unit_field(sheet, i, rows::ID) {
+        if book[layout::IDS + i] != rows::unit_field(sheet, i, rows::ID) {
             return false;
         }
     }
@@ -30,10 +30,10 @@ fn same_ids(book: &[u32], sheet: &[u8], n: usize) -> bool
 
 // 16
 fn other_building(book: &[u32], sheet: &[u8], n: u32) -> bool
-    requires { ⌜ (length (now book) ≡ 15557) × HoldsRows (now sheet) n ⌝ }
+    requires { ⌜ (length (now book) ≡ bookLength) × HoldsRows (now sheet) n ⌝ }
     ensures { λ r. ⌜ r ≡ otherBuilding (now (book .entry)) (sheetOf (now (sheet .entry))) ⌝ }
 {
-    if book[0] != n {
+    if book[layout::UNIT_COUNT] != n {
         return true;
     }
     if same_ids(book, sheet, n as usize) {
@@ -70,7 +70,7 @@ fn enter(
         return Outcome::Refused(Refusal::OtherBuilding);
     }
     let i = month as usize - 1;
-    if wrong_mark(replacing, book[1 + i]) {
+    if wrong_mark(replacing, book[layout::MARKS + i]) {
         return Outcome::Refused(Refusal::MonthState);
     }
     months::put_month(book, i, 1, meter, bill, block);
@@ -81,7 +81,7 @@ fn enter(
 fn bring(book: &mut [u32], sheet: &[u8], replacing: bool) -> Outcome
     ensures { λ r. ⌜ Answered (now (book .entry)) (bringCall replacing (now (sheet .entry))) (replyOf r) (now (book .exit)) ⌝ }
 {
-    if lent::bad_book(book) {
+    if layout::bad_book(book) {
         return Outcome::Refused(Refusal::BadYearBook);
     }
     let r = settlement::settle_sheet(sheet);

@@ -1,6 +1,6 @@
 // The year book (document 01, "Year book").
 mod bring;
-mod lent;
+mod layout;
 mod months;
 mod opening;
 mod totals;

@@ -1,30 +1,31 @@
 // Opening: n and ids of a sheet, all else 0.
 ghost use mathlib.Core.Path.{_≡_};
 ghost use lib.ListN.{length};
-ghost use Rattle.yearbook.specs.LentBook.{zeroBook, freshBook, Opens};
+ghost use Rattle.yearbook.specs.LentBook.{bookLength, zeroBook, freshBook, Opens};
 ghost use Rattle.yearbook.specs.Inner.Code.{HoldsRows};
+use crate::layout;
 use sheet::Outcome;
 use sheet::Refusal;
 use sheet::header;
 use sheet::rows;
 
 fn clear(book: &mut [u32])
-    requires { ⌜ length (now book) ≡ 15557 ⌝ }
+    requires { ⌜ length (now book) ≡ bookLength ⌝ }
     ensures { λ _. ⌜ now (book .exit) ≡ zeroBook ⌝ }
 {
-    for i in 0..15557usize {
+    for i in 0..layout::BOOK_LENGTH {
         book[i] = 0;
     }
 }
 
 fn start(book: &mut [u32], sheet: &[u8], n: usize)
-    requires { ⌜ (length (now book) ≡ 15557) × HoldsRows (now sheet) n ⌝ }
+    requires { ⌜ (length (now book) ≡ bookLength) × HoldsRows (now sheet) n ⌝ }
     ensures { λ _. ⌜ now (book .exit) ≡ freshBook (now (sheet .entry)) ⌝ }
 {
     clear(book);
-    book[0] = n as u32;
+    book[layout::UNIT_COUNT] = n as u32;
     for i in 0..n {
-        book[37 + i] = rows::unit_field(sheet, i, rows::ID);
+        book[layout::IDS + i] = rows::unit_field(sheet, i, rows::ID);
     }
 }
 
@@ -32,7 +33,7 @@ fn start(book: &mut [u32], sheet: &[u8], n: usize)
 pub fn open(book: &mut [u32], sheet: &[u8]) -> Outcome
     ensures { λ r. ⌜ Opens (now (book .entry)) (now (sheet .entry)) r (now (book .exit)) ⌝ }
 {
-    if book.len() != 15557 {
+    if book.len() != layout::BOOK_LENGTH {
         return Outcome::Refused(Refusal::BadYearBook);
     }
     let outcome = sheet::check_sheet(sheet);

@@ -2,8 +2,8 @@
 ghost use mathlib.Core.Path.{_≡_};
 ghost use Prim.Native.Nat.{_≤_, _<_};
 ghost use lib.ListN.{length};
-ghost use Rattle.yearbook.specs.LentBook.{ifMarked, marksIn, blockSum, yearSums, refusedTotals, Tells};
-use crate::lent;
+ghost use Rattle.yearbook.specs.LentBook.{bookLength, blockLength, ifMarked, marksIn, blockSum, yearSums, refusedTotals, Tells};
+use crate::layout;
 use sheet::Outcome;
 use sheet::Refusal;
 
@@ -22,30 +22,33 @@ fn if_marked(mark: u32, x: u32) -> u32
 }
 
 fn marks_in(book: &[u32]) -> u32
-    requires { ⌜ length (now book) ≡ 15557 ⌝ }
+    requires { ⌜ length (now book) ≡ bookLength ⌝ }
     ensures { λ r. ⌜ r ≡ marksIn (now (book .entry)) ⌝ }
 {
     let mut k: u32 = 0;
-    for i in 0..12usize {
-        k += if_marked(book[1 + i], 1);
+    for i in 0..layout::MONTHS {
+        k += if_marked(book[layout::MARKS + i], 1);
     }
     k
 }
 
 // One number of the blocks, summed over the months that stand.
 fn block_sum(book: &[u32], at: usize) -> u64
-    requires { ⌜ (length (now book) ≡ 15557) × (at < 1280) ⌝ }
+    requires { ⌜ (length (now book) ≡ bookLength) × (at < blockLength) ⌝ }
     ensures { λ r. ⌜ r ≡ blockSum (now (book .entry)) at ⌝ }
 {
     let mut sum: u64 = 0;
-    for i in 0..12usize {
-        sum += if_marked(book[1 + i], book[197 + 1280 * i + at]) as u64;
+    for i in 0..layout::MONTHS {
+        sum += if_marked(
+            book[layout::MARKS + i],
+            book[layout::BLOCKS + layout::BLOCK_LENGTH * i + at],
+        ) as u64;
     }
     sum
 }
 
 fn unit_sums(book: &[u32], place: usize) -> [u64; 8]
-    requires { ⌜ (length (now book) ≡ 15557) × (place < 160) ⌝ }
+    requires { ⌜ (length (now book) ≡ bookLength) × (place < 160) ⌝ }
     ensures { λ r. ⌜ r ≡ yearSums (now (book .entry)) place ⌝ }
 {
     let at = 8 * place;
@@ -75,10 +78,10 @@ fn refused(r: Refusal) -> YearTotals
 pub fn year(book: &[u32], place: u32) -> YearTotals
     ensures { λ t. ⌜ Tells (now (book .entry)) place t ⌝ }
 {
-    if lent::bad_book(book) {
+    if layout::bad_book(book) {
         return refused(Refusal::BadYearBook);
     }
-    if place >= book[0] {
+    if place >= book[layout::UNIT_COUNT] {
         return refused(Refusal::NoSuchUnit);
     }
     YearTotals {

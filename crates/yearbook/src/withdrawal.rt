@@ -1,7 +1,7 @@
 // Withdraw: a month holds nothing.
 ghost use Rattle.yearbook.specs.Calls.{replyOf};
 ghost use Rattle.yearbook.specs.LentBook.{Answered};
-use crate::lent;
+use crate::layout;
 use crate::months;
 use sheet::Outcome;
 use sheet::Refusal;
@@ -10,20 +10,20 @@ use sheet::Refusal;
 pub fn withdraw(book: &mut [u32], month: u32) -> Outcome
     ensures { λ r. ⌜ Answered (now (book .entry)) (Rattle.yearbook.specs.Calls.withdraw month) (replyOf r) (now (book .exit)) ⌝ }
 {
-    if lent::bad_book(book) {
+    if layout::bad_book(book) {
         return Outcome::Refused(Refusal::BadYearBook);
     }
     if month < 1 {
         return Outcome::Refused(Refusal::MonthState);
     }
-    if month > 12 {
+    if month as usize > layout::MONTHS {
         return Outcome::Refused(Refusal::MonthState);
     }
     let i = month as usize - 1;
-    if book[1 + i] != 1 {
+    if book[layout::MARKS + i] != 1 {
         return Outcome::Refused(Refusal::MonthState);
     }
-    let none = [0u32; 1280];
+    let none = [0u32; layout::BLOCK_LENGTH];
     months::put_month(book, i, 0, 0, 0, &none);
     Outcome::Accepted
 }

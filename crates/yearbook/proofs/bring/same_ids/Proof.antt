@@ -7,6 +7,7 @@ use Prim.Native.Nat.{ℕ, _+_, _-_, _<_, _≤_}
 use lib.ListN.{length, getD, take, drop, length-take, length-drop}
 use lib.Seq.{getD-take, getD-drop, ext-getD}
 use Rattle.sheet.specs.Layout.{sheetOf}
+use Rattle.yearbook.specs.LentBook.{bookLength, idsAt}
 use Rattle.yearbook.specs.Inner.Code.{HoldsRows}
 use Rattle.yearbook.proofs.Writes.{ids-length}
 use Rattle.yearbook.proofs.Building.{id-at, differ-at, same-lists}
@@ -14,7 +15,7 @@ use Rattle.yearbook.proofs.bring.same_ids.Statement.{statement}
 use Rattle.yearbook.proofs.bring.same_ids.Tie as tie
 
 abbrev Inv-loop : tie.InvT-loop
-Inv-loop book sheet n i₀ i = (i ≤ n) × (length book ≡ 15557) × HoldsRows sheet n × ((k : ℕ) → k < i → getD book (37 + k) 0 ≡ getD (map (λ u. u .id) (sheetOf sheet .units)) k 0)
+Inv-loop book sheet n i₀ i = (i ≤ n) × (length book ≡ bookLength) × HoldsRows sheet n × ((k : ℕ) → k < i → getD book (idsAt + k) 0 ≡ getD (map (λ u. u .id) (sheetOf sheet .units)) k 0)
 
 abbrev μ-loop : tie.MeasureT-loop
 μ-loop book sheet n i₀ i = n - i
@@ -39,8 +40,8 @@ returns c =
     let inv = c .before .before .before .before .loop .inv in let i = c .before .before .before .before .loop .i in
     let a = c .before .before .before .before .before .before .before .args in
     let b = a .book .now in let s = sheetOf (a .sheet .now) in
-    sym (differ-at (take (a .n) (drop 37 b)) (map (λ u. u .id) (s .units)) i (simp (length-take, length-drop) (omega arith)) (omega (arith, ids-length (a .sheet .now)))
-    (λ e. c .if1 .taken (sym (getD-take (a .n) (drop 37 b) i 0 (omega arith) ∙ getD-drop 37 b i 0) ∙ e ∙ id-at s i ∙ sym (c .before .unit-field .ensures))))
+    sym (differ-at (take (a .n) (drop idsAt b)) (map (λ u. u .id) (s .units)) i (simp (length-take, length-drop) (omega arith)) (omega (arith, ids-length (a .sheet .now)))
+    (λ e. c .if1 .taken (sym (getD-take (a .n) (drop idsAt b) i 0 (omega arith) ∙ getD-drop idsAt b i 0) ∙ e ∙ id-at s i ∙ sym (c .before .unit-field .ensures))))
 
 add-i : tie.Need-add-i Inv-loop μ-loop
 add-i c = search needs
@@ -67,9 +68,9 @@ returns-2 c =
     let inv = c .before .loop .inv in
     let a = c .before .before .before .before .args in
     let b = a .book .now in let ids = map (λ u. u .id) (sheetOf (a .sheet .now) .units) in
-    let size : length (take (a .n) (drop 37 b)) ≡ a .n = simp (length-take, length-drop) (omega arith) in
-    sym (same-lists (take (a .n) (drop 37 b)) ids (ext-getD 0 (take (a .n) (drop 37 b)) ids (omega (arith, ids-length (a .sheet .now)))
-    (λ k h. let l : k < a .n = omega arith in getD-take (a .n) (drop 37 b) k 0 l ∙ getD-drop 37 b k 0 ∙ inv .3 k (omega arith))))
+    let size : length (take (a .n) (drop idsAt b)) ≡ a .n = simp (length-take, length-drop) (omega arith) in
+    sym (same-lists (take (a .n) (drop idsAt b)) ids (ext-getD 0 (take (a .n) (drop idsAt b)) ids (omega (arith, ids-length (a .sheet .now)))
+    (λ k h. let l : k < a .n = omega arith in getD-take (a .n) (drop idsAt b) k 0 l ∙ getD-drop idsAt b k 0 ∙ inv .3 k (omega arith))))
 
 pub same-ids-spec : {M : Type 1} → statement M
 same-ids-spec =

@@ -3,16 +3,16 @@ use native.Mathlib.Omega.{arith}
 use Prim.Native.Nat.{_+_, _*_, _-_, _<_, _≤_}
 use lib.ListN.{length, take, length-set}
 use lib.Seq.{sets, length-sets, take-all}
-use Rattle.yearbook.specs.LentBook.{putMonth}
+use Rattle.yearbook.specs.LentBook.{bookLength, blockLength, blockAt, putMonth}
 use Rattle.yearbook.proofs.Stores.{store-next}
 use Rattle.yearbook.proofs.months.put_month.Statement.{statement}
 use Rattle.yearbook.proofs.months.put_month.Tie as tie
 
 abbrev Inv-loop : tie.InvT-loop
-Inv-loop book₀ i mark meter bill block base k₀ book k = (k ≤ 1280) × (book ≡ sets book₀ base (take k block)) × (length book₀ ≡ 15557) × (base ≡ 197 + 1280 * i) × (i < 12) × (length block ≡ 1280)
+Inv-loop book₀ i mark meter bill block base k₀ book k = (k ≤ blockLength) × (book ≡ sets book₀ base (take k block)) × (length book₀ ≡ bookLength) × (base ≡ blockAt i) × (i < 12) × (length block ≡ blockLength)
 
 abbrev μ-loop : tie.MeasureT-loop
-μ-loop book₀ i mark meter bill block base k₀ book k = 1280 - k
+μ-loop book₀ i mark meter bill block base k₀ book k = blockLength - k
 
 add-book : tie.Need-add-book Inv-loop μ-loop
 add-book c = omega arith

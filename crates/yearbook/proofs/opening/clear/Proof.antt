@@ -5,15 +5,16 @@ use native.Mathlib.Decide.{decLt}
 use Prim.Native.Nat.{ℕ, _-_, _<_, _≤_}
 use lib.ListN.{length, getD, length-set}
 use lib.Seq.{getD-set-same, getD-set-other}
+use Rattle.yearbook.specs.LentBook.{bookLength}
 use Rattle.yearbook.proofs.Writes.{all-zero}
 use Rattle.yearbook.proofs.opening.clear.Statement.{statement}
 use Rattle.yearbook.proofs.opening.clear.Tie as tie
 
 abbrev Inv-loop : tie.InvT-loop
-Inv-loop book₀ i₀ book i = (i ≤ 15557) × (length book ≡ 15557) × ((k : ℕ) → k < i → getD book k 0 ≡ 0)
+Inv-loop book₀ i₀ book i = (i ≤ bookLength) × (length book ≡ bookLength) × ((k : ℕ) → k < i → getD book k 0 ≡ 0)
 
 abbrev μ-loop : tie.MeasureT-loop
-μ-loop book₀ i₀ book i = 15557 - i
+μ-loop book₀ i₀ book i = bookLength - i
 
 loop-holds : tie.Need-loop-holds Inv-loop μ-loop
 loop-holds c = (omega arith, omega arith, λ k h. absurd (omega arith))

@@ -6,7 +6,7 @@ use Prim.Native.Nat.{_-_, _≤_}
 use lib.ListN.{length, take, length-set}
 use lib.Seq.{sets, length-sets, take-all}
 use Rattle.sheet.specs.Layout.{sheetOf}
-use Rattle.yearbook.specs.LentBook.{freshBook}
+use Rattle.yearbook.specs.LentBook.{bookLength, idsAt, freshBook}
 use Rattle.yearbook.specs.Inner.Code.{HoldsRows}
 use Rattle.yearbook.proofs.Stores.{store-next}
 use Rattle.yearbook.proofs.Writes.{ids-length, zero-length}
@@ -15,7 +15,7 @@ use Rattle.yearbook.proofs.opening.start.Statement.{statement}
 use Rattle.yearbook.proofs.opening.start.Tie as tie
 
 abbrev Inv-loop : tie.InvT-loop
-Inv-loop book₀ sheet n i₀ book i = (i ≤ n) × (book ≡ sets book₀ 37 (take i (map (λ u. u .id) (sheetOf sheet .units)))) × (length book₀ ≡ 15557) × HoldsRows sheet n
+Inv-loop book₀ sheet n i₀ book i = (i ≤ n) × (book ≡ sets book₀ idsAt (take i (map (λ u. u .id) (sheetOf sheet .units)))) × (length book₀ ≡ bookLength) × HoldsRows sheet n
 
 abbrev μ-loop : tie.MeasureT-loop
 μ-loop book₀ sheet n i₀ book i = n - i
@@ -56,7 +56,7 @@ loop-again : tie.Need-loop-again Inv-loop μ-loop
 loop-again c =
     let inv = c .before .before .loop .inv in let i = c .before .before .loop .i in
     let sheet = c .before .before .before .before .before .before .before .before .before .args .sheet .now in
-    (omega arith, rw (inv .1, c .unit-field .ensures, ← id-at (sheetOf sheet) i) (store-next (map (λ u. u .id) (sheetOf sheet .units)) _ 37 i (omega (arith, ids-length sheet))), inv .2, inv .3)
+    (omega arith, rw (inv .1, c .unit-field .ensures, ← id-at (sheetOf sheet) i) (store-next (map (λ u. u .id) (sheetOf sheet .units)) _ idsAt i (omega (arith, ids-length sheet))), inv .2, inv .3)
 
 same-length : tie.Need-same-length Inv-loop μ-loop
 same-length c = rw (c .before .loop .inv .1, length-sets, c .before .loop .inv .2) (omega arith)

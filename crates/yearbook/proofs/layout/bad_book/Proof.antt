@@ -4,13 +4,13 @@ use native.Mathlib.Omega.{arith}
 use native.Mathlib.Decide.{decLt}
 use Prim.Native.Nat.{ℕ, _-_, _<_, _≤_}
 use lib.ListN.{length, getD}
-use Rattle.yearbook.specs.LentBook.{unitCountIn, markAt}
+use Rattle.yearbook.specs.LentBook.{bookLength, unitCountIn, markAt}
 use Rattle.yearbook.proofs.Sound.{bad-length, bad-units, bad-mark, sound-book}
-use Rattle.yearbook.proofs.lent.bad_book.Statement.{statement}
-use Rattle.yearbook.proofs.lent.bad_book.Tie as tie
+use Rattle.yearbook.proofs.layout.bad_book.Statement.{statement}
+use Rattle.yearbook.proofs.layout.bad_book.Tie as tie
 
 abbrev Inv-loop : tie.InvT-loop
-Inv-loop book i₀ i = (i ≤ 12) × (length book ≡ 15557) × (unitCountIn book ≤ 160) × ((k : ℕ) → k < i → getD book (markAt k) 0 ≤ 1)
+Inv-loop book i₀ i = (i ≤ 12) × (length book ≡ bookLength) × (unitCountIn book ≤ 160) × ((k : ℕ) → k < i → getD book (markAt k) 0 ≤ 1)
 
 abbrev μ-loop : tie.MeasureT-loop
 μ-loop book i₀ i = 12 - i
