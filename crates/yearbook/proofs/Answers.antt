@@ -11,13 +11,12 @@ use Rattle.sheet.specs.declared.refusal.Refusal.the-variants.{BadYearBook, Othe
 use Rattle.sheet.specs.declared.refusal.Outcome.the-variants.{Accepted, Refused}
 use Rattle.sheet.specs.Refusals.{Rule, _⇒_, firstRefusal}
 use Rattle.sheet.specs.Layout.{sheetOf}
-use Rattle.sheet.specs.Check.{checked}
-use Rattle.month.specs.Month.{Month, Settled, settleRules, settledSheet}
+use Rattle.sheet.specs.Check.{sheetRules, checked}
+use Rattle.month.specs.Month.{Month, Settled, monthRules, settleRules, settledSheet}
 use Rattle.month.proofs.Laws.{settled-month}
-use Rattle.yearbook.specs.Calls.{post, replace, withdraw, year, accepted, refused, totals}
+use Rattle.yearbook.specs.Calls.{withdraw, year, accepted, refused, totals}
 use Rattle.yearbook.specs.LentBook.{bookLength, unitCountIn, marked, badBook, otherBuilding, sheetCallRules, putSheet, clearMonth, freshBook, openAnswer, bookOpened, postAnswer, bookPosted, replaceAnswer, bookReplaced, withdrawAnswer, bookWithdrawn, yearOutcome, marksIn, yearSums, yearAnswer, lentReply, lentAfter, Opens, Answered, refusedTotals, totalsBy, Tells}
-use Rattle.yearbook.specs.Inner.Code.{bringCall, wrongMonth}
-use Rattle.yearbook.proofs.Settled.{sheet-refused}
+use Rattle.yearbook.specs.Inner.Bring.{bringCall, wrongMonth}
 
 -- ---- rules one after the other
 first-refused : (xs ys : List Rule) {r : Refusal} → firstRefusal xs ≡ Refused r → firstRefusal (xs ++ ys) ≡ Refused r
@@ -62,9 +61,19 @@ module _ (replacing : Bool) (b sheet : List ℕ) where
   bring-15 e = by-refusal (rw e)
 
   module _ (sound : badBook b ≡ false) where
-    pub bring-refused : (r : Refusal) → settledSheet sheet ≡ Settled.refused r → Answered b (bringCall replacing sheet) (refused r) b
+    pub bring-refused : (r : Refusal) → firstRefusal (settleRules sheet) ≡ Refused r → Answered b (bringCall replacing sheet) (refused r) b
     unfolding sheetCallRules firstRefusal
-    bring-refused r e = by-refusal (rw sound (first-refused (settleRules sheet) _ (sheet-refused sheet r e)))
+    bring-refused r e = by-refusal (rw sound (first-refused (settleRules sheet) _ e))
+
+    -- 1 to 7
+    pub bring-unchecked : (r : Refusal) → checked 32 sheet ≡ Refused r → Answered b (bringCall replacing sheet) (refused r) b
+    unfolding settleRules checked
+    bring-unchecked r e = bring-refused r (first-refused (sheetRules 32 sheet) (monthRules (sheetOf sheet)) e)
+
+    -- 8 to 12
+    pub bring-unsettled : (r : Refusal) → checked 32 sheet ≡ Accepted → firstRefusal (monthRules (sheetOf sheet)) ≡ Refused r → Answered b (bringCall replacing sheet) (refused r) b
+    unfolding settleRules checked
+    bring-unsettled r passes e = bring-refused r (first-accepted (sheetRules 32 sheet) (monthRules (sheetOf sheet)) passes ∙ e)
 
     module _ (m : Month) (settles : settledSheet sheet ≡ Settled.settled m) where
       behind : firstRefusal (sheetCallRules b sheet (wrongMonth replacing b sheet))

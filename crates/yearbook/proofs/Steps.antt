@@ -24,9 +24,9 @@ use Rattle.yearbook.specs.PlainBook.{PlainBook, Step, hasSheet, stands, 
 use Rattle.yearbook.specs.LentBook.{blockLength, unitCountIn, markAt, marked, badBook, otherBuilding, ifMarked, marksIn, blockSum, yearSums, placeOfMonth, lentReply, lentAfter, Answered}
 use Rattle.yearbook.proofs.Sums.{orZero, sum-held, sum-ones, eight-cong}
 use Rattle.yearbook.proofs.Sound.{neither, sound-book}
-use Rattle.yearbook.proofs.Settled.{own-month, sheet-accepted}
+use Rattle.yearbook.proofs.Settled.{sheet-refused, own-month, sheet-accepted}
 use Rattle.yearbook.proofs.Building.{eqb-sym, same-sym}
-use Rattle.yearbook.specs.Inner.Code.{bringCall, wrongMonth}
+use Rattle.yearbook.specs.Inner.Bring.{bringCall, wrongMonth}
 use Rattle.yearbook.proofs.Answers.{bring-refused, bring-16, bring-17, bring-accepted, withdraw-low, withdraw-high, withdraw-17, withdraw-accepted, year-18, year-totals}
 use Rattle.yearbook.proofs.Shows.{At, Shows, shows-sound, shows-ids, shows-cleared, shows-sheet}
 
@@ -90,7 +90,7 @@ module _ {n : ℕ} {b : List ℕ} {p : PlainBook} (h : Shows n b p) where
   sheet-so w sheet wrong k = go (settledSheet sheet) refl
     where
       go : (o : Settled) → settledSheet sheet ≡ o → Follows n b (bringCall w sheet) (brought p sheet wrong o)
-      go (Settled.refused r) e = follows (bring-refused w b sheet sound r e) h
+      go (Settled.refused r) e = follows (bring-refused w b sheet sound r (sheet-refused sheet r e)) h
       go (Settled.settled m) e =
           let own = own-month sheet e in
           subst (λ (x : Month). Follows n b (bringCall w sheet) (brought p sheet wrong (Settled.settled x))) (sym (settled-month sheet m e .1))

@@ -1,5 +1,5 @@
 -- What the writes of the year book leave, number by number. Assumes nothing.
-use mathlib.Core.Path.{_≡_, refl, sym, _∙_}
+use mathlib.Core.Path.{_≡_, sym, _∙_}
 use mathlib.Core.Logic.{_≢_, _⊎_, inl, inr}
 use mathlib.Core.List.{List, map}
 use Prim.Native.Nat.{ℕ, _+_, _*_, _-_, _≤_, _<_}
@@ -7,14 +7,9 @@ use native.Mathlib.Omega.{arith}
 use native.Mathlib.Decide.{decLt}
 use lib.ListN.{length, getD, set, length-set, length-replicate, length-append, length-map, List·getD-eq-default}
 use lib.Seq.{getD-set-same, getD-set-other, length-sets, ext-getD}
-use Rattle.sheet.specs.declared.refusal.Outcome.{Outcome}
-use Rattle.sheet.specs.declared.refusal.Outcome.the-variants.{Accepted, Refused}
 use Rattle.sheet.specs.Layout.{sheetOf}
 use Rattle.sheet.proofs.Units.{units-count}
-use Rattle.month.specs.Month.{Month, Settled, monthOf, settledSheet}
-use Rattle.month.proofs.Laws.{settled-month}
-use Rattle.yearbook.specs.Calls.{Call, post, replace, withdraw, year}
-use Rattle.yearbook.specs.LentBook.{bookLength, idsAt, blockLength, unitCountIn, markAt, meterAt, billAt, blockAt, padded, putMonth, putSheet, clearMonth, zeroBook, freshBook, afterwards, postAnswer, bookPosted, replaceAnswer, bookReplaced, withdrawAnswer, bookWithdrawn, lentAfter}
+use Rattle.yearbook.specs.LentBook.{bookLength, idsAt, blockLength, unitCountIn, markAt, meterAt, billAt, blockAt, padded, putMonth, zeroBook, freshBook}
 use Rattle.yearbook.proofs.Stores.{getD-sets-below, getD-sets-above, getD-sets-in, zero-at}
 
 -- ---- a month: its mark, M, bill and block
@@ -101,21 +96,3 @@ module _ (sheet : List ℕ) where
     | yes h ↦ getD-sets-in ids (set zeroBook 0 (sheetOf sheet .unitCount)) idsAt i (omega (arith, ids-length)) (rw length-set (omega (arith, ids-length, zero-length)))
     | no h ↦ fresh-high (idsAt + i) (omega arith) ∙ sym (List·getD-eq-default ids 0 (omega (arith, ids-length)))
   ]
-
--- ---- every call keeps the length
-afterwards-length : (o : Outcome) (b written : List ℕ) → length written ≡ length b → length (afterwards o b written) ≡ length b
-afterwards-length Accepted b written e = e
-afterwards-length (Refused r) b written e = refl
-
-pub call-keeps-length : (b : List ℕ) (c : Call) → length (lentAfter b c) ≡ length b
-unfolding lentAfter bookPosted bookReplaced bookWithdrawn putSheet clearMonth
-call-keeps-length b (post sheet) = afterwards-length (postAnswer b sheet) b _ (put-length b _ _ _ _ _)
-call-keeps-length b (replace sheet) = afterwards-length (replaceAnswer b sheet) b _ (put-length b _ _ _ _ _)
-call-keeps-length b (withdraw month) = afterwards-length (withdrawAnswer b month) b _ (put-length b _ _ _ _ _)
-call-keeps-length b (year place) = refl
-
--- ---- the write of a settled sheet, by the month it settles to
-pub put-settled : (b sheet : List ℕ) (m : Month) → settledSheet sheet ≡ Settled.settled m
-    → putSheet b sheet ≡ putMonth b (m .month - 1) 1 (m .meter) (m .bill) (padded (m .unitCount) (m .numbers))
-unfolding putSheet monthOf
-put-settled b sheet m e = rw (settled-month sheet m e .1)

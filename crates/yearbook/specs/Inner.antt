@@ -1,3 +1,4 @@
 -- What inner functions promise each other. Nothing in here need be believed.
 pub mod Sound
-pub mod Code
+pub mod Rows
+pub mod Bring

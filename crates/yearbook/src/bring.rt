@@ -1,18 +1,18 @@
 // Post and replace: a settled sheet into its month.
 ghost use mathlib.Core.Path.{_≡_};
-ghost use mathlib.Core.Bool.{true, false};
 ghost use mathlib.Core.List.{map};
-ghost use Prim.Native.Nat.{_+_};
 ghost use lib.ListN.{length, take, drop};
 ghost use Rattle.sheet.specs.Layout.{sheetOf};
 ghost use Rattle.sheet.specs.Check.{sameList};
 ghost use Rattle.yearbook.specs.Calls.{replyOf};
 ghost use Rattle.yearbook.specs.LentBook.{bookLength, idsAt, otherBuilding, Answered};
-ghost use Rattle.yearbook.specs.Inner.Code.{bringCall, wrongMark, HoldsRows, Brings};
+ghost use Rattle.yearbook.specs.Inner.Rows.{HoldsRows};
+ghost use Rattle.yearbook.specs.Inner.Bring.{bringCall, wrongMark, Passed, Brings};
 use crate::layout;
 use crate::months;
 use sheet::Outcome;
 use sheet::Refusal;
+use sheet::header;
 use sheet::rows;
 
 // Whether the sheet's n ids are the book's.
@@ -52,29 +52,36 @@ fn wrong_mark(replacing: bool, mark: u32) -> bool
     mark == 1
 }
 
-// A sheet that settles: 16, 17.
-fn enter(
-    book: &mut [u32],
-    sheet: &[u8],
-    replacing: bool,
-    month: u32,
-    n: u32,
-    meter: u32,
-    bill: u32,
-    block: &[u32],
-) -> Outcome
-    requires { ⌜ Brings (now book) (now sheet) month n meter bill (now block) ⌝ }
+// A sheet that settles to the block: 16, 17, then the write.
+fn enter(book: &mut [u32], sheet: &[u8], replacing: bool, block: &[u32]) -> Outcome
+    requires { ⌜ Brings (now book) (now sheet) (now block) ⌝ }
     ensures { λ r. ⌜ Answered (now (book .entry)) (bringCall replacing (now (sheet .entry))) (replyOf r) (now (book .exit)) ⌝ }
 {
-    if other_building(book, sheet, n) {
+    if other_building(book, sheet, header::header_field(sheet, header::UNIT_COUNT)) {
         return Outcome::Refused(Refusal::OtherBuilding);
     }
-    let i = month as usize - 1;
+    let i = header::header_field(sheet, header::MONTH) as usize - 1;
     if wrong_mark(replacing, book[layout::MARKS + i]) {
         return Outcome::Refused(Refusal::MonthState);
     }
+    let meter = header::header_field(sheet, header::SHARED_METER);
+    let bill = settlement::bill_cents(sheet) as u32;
     months::put_month(book, i, 1, meter, bill, block);
     Outcome::Accepted
+}
+
+// 8 to 12, then 16 and 17. The block is on the stack, so that no refusal writes to the book.
+fn settle_into(book: &mut [u32], sheet: &[u8], replacing: bool) -> Outcome
+    requires { ⌜ Passed (now book) (now sheet) ⌝ }
+    ensures { λ r. ⌜ Answered (now (book .entry)) (bringCall replacing (now (sheet .entry))) (replyOf r) (now (book .exit)) ⌝ }
+{
+    let n = header::header_field(sheet, header::UNIT_COUNT) as usize;
+    let mut block = [0u32; layout::BLOCK_LENGTH];
+    let outcome = settlement::settle_checked(sheet, &mut block[..8 * n]);
+    let Outcome::Accepted = outcome else {
+        return outcome;
+    };
+    enter(book, sheet, replacing, &block)
 }
 
 // 15, 1 to 12, then 16 and 17.
@@ -84,22 +91,11 @@ fn bring(book: &mut [u32], sheet: &[u8], replacing: bool) -> Outcome
     if layout::bad_book(book) {
         return Outcome::Refused(Refusal::BadYearBook);
     }
-    let r = settlement::settle_sheet(sheet);
-    let outcome = r.outcome;
-    let numbers = r.numbers;
+    let outcome = sheet::check_sheet(sheet);
     let Outcome::Accepted = outcome else {
         return outcome;
     };
-    enter(
-        book,
-        sheet,
-        replacing,
-        r.month,
-        r.count,
-        r.meter,
-        r.bill,
-        &numbers,
-    )
+    settle_into(book, sheet, replacing)
 }
 
 pub fn post(book: &mut [u32], sheet: &[u8]) -> Outcome

@@ -2,7 +2,7 @@
 ghost use mathlib.Core.Path.{_≡_};
 ghost use lib.ListN.{length};
 ghost use Rattle.yearbook.specs.LentBook.{bookLength, zeroBook, freshBook, Opens};
-ghost use Rattle.yearbook.specs.Inner.Code.{HoldsRows};
+ghost use Rattle.yearbook.specs.Inner.Rows.{HoldsRows};
 use crate::layout;
 use sheet::Outcome;
 use sheet::Refusal;

@@ -1,7 +1,6 @@
 use borrow.Author.Needs.{needs}
 use mathlib.Core.Path.{sym, _∙_}
-use Rattle.yearbook.proofs.Answers.{bring-15, bring-refused}
-use Rattle.yearbook.proofs.Brought.{by-refused, by-accepted}
+use Rattle.yearbook.proofs.Answers.{bring-15, bring-unchecked}
 use Rattle.yearbook.proofs.bring.bring.Statement.{statement}
 use Rattle.yearbook.proofs.bring.bring.Tie as tie
 
@@ -14,8 +13,8 @@ same-length c = search needs
 returns : tie.Need-returns
 returns c = let a = c .before .before .before .before .before .args in bring-15 (a .replacing) (a .book .now) (a .sheet .now) (sym (c .before .bad-book .ensures) ∙ c .if1 .taken)
 
-settle-sheet-requires : tie.Need-settle-sheet-requires
-settle-sheet-requires c κs = search needs
+check-sheet-requires : tie.Need-check-sheet-requires
+check-sheet-requires c κs = search needs
 
 enum-told : tie.Need-enum-told
 enum-told c = search needs
@@ -28,16 +27,13 @@ same-length-2 c = search needs
 
 returns-2 : tie.Need-returns-2
 returns-2 c =
-    let one = c .before .before .before .before in let a = c .before .before .before .before .before .before .before .before .before .args in let e = c .enum-told2 .given .1 in
-    rw e (bring-refused (a .replacing) (a .book .now) (a .sheet .now) (sym (one .before .bad-book .ensures) ∙ one .if1 .left) _ (by-refused _ _ (c .before .before .before .settle-sheet .ensures) _ e))
+    let one = c .before .before .before in let a = c .before .before .before .before .before .before .before .before .args in let e = c .enum-told2 .given .1 in
+    rw e (bring-unchecked (a .replacing) (a .book .now) (a .sheet .now) (sym (one .before .bad-book .ensures) ∙ one .if1 .left) _ (sym (c .before .before .check-sheet .ensures) ∙ e))
 
-slice-aggregate-enter : tie.Need-slice-aggregate-enter
-slice-aggregate-enter c = search needs
-
-enter-requires : tie.Need-enter-requires
-enter-requires c κs =
-    let one = c .before .before .before .before .before .before in
-    by-accepted _ _ (c .before .before .before .before .before .settle-sheet .ensures) _ (sym (one .before .bad-book .ensures) ∙ one .if1 .left) (c .before .before .enum-told .given .1)
+settle-into-requires : tie.Need-settle-into-requires
+settle-into-requires c κs =
+    let one = c .before .before .before .before in
+    record { sound = sym (one .before .bad-book .ensures) ∙ one .if1 .left; checked-sheet = sym (c .before .before .before .check-sheet .ensures) ∙ c .before .enum-told .given .1 }
 
 same-length-3 : tie.Need-same-length-3
 same-length-3 c = search needs
@@ -52,12 +48,11 @@ bring-spec =
     bad-book-requires
     same-length
     returns
-    settle-sheet-requires
+    check-sheet-requires
     enum-told
     enum-told-2
     same-length-2
     returns-2
-    slice-aggregate-enter
-    enter-requires
+    settle-into-requires
     same-length-3
     returns-3)

@@ -8,7 +8,7 @@ use lib.ListN.{length, getD, take, drop, length-take, length-drop}
 use lib.Seq.{getD-take, getD-drop, ext-getD}
 use Rattle.sheet.specs.Layout.{sheetOf}
 use Rattle.yearbook.specs.LentBook.{bookLength, idsAt}
-use Rattle.yearbook.specs.Inner.Code.{HoldsRows}
+use Rattle.yearbook.specs.Inner.Rows.{HoldsRows}
 use Rattle.yearbook.proofs.Writes.{ids-length}
 use Rattle.yearbook.proofs.Building.{id-at, differ-at, same-lists}
 use Rattle.yearbook.proofs.bring.same_ids.Statement.{statement}

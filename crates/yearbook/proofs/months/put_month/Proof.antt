@@ -1,6 +1,6 @@
 use mathlib.Core.Path.{_≡_, refl}
 use native.Mathlib.Omega.{arith}
-use Prim.Native.Nat.{_+_, _*_, _-_, _<_, _≤_}
+use Prim.Native.Nat.{_-_, _<_, _≤_}
 use lib.ListN.{length, take, length-set}
 use lib.Seq.{sets, length-sets, take-all}
 use Rattle.yearbook.specs.LentBook.{bookLength, blockLength, blockAt, putMonth}

@@ -7,7 +7,7 @@ use lib.ListN.{length, take, length-set}
 use lib.Seq.{sets, length-sets, take-all}
 use Rattle.sheet.specs.Layout.{sheetOf}
 use Rattle.yearbook.specs.LentBook.{bookLength, idsAt, freshBook}
-use Rattle.yearbook.specs.Inner.Code.{HoldsRows}
+use Rattle.yearbook.specs.Inner.Rows.{HoldsRows}
 use Rattle.yearbook.proofs.Stores.{store-next}
 use Rattle.yearbook.proofs.Writes.{ids-length, zero-length}
 use Rattle.yearbook.proofs.Building.{id-at}
