@@ -32,22 +32,25 @@ checked-rows sheet n e h =
     let f = fits 32 sheet h in
     record { count = e; few = omega (arith, f .header .unitCount); size = rw e (f .byteCount) }
 
--- its statement's part of a block of zeros, lent to be settled into
+-- ---- it is settled into a part of a block of zeros
+abbrev pub partOf : ℕ → List ℕ
+partOf n = take (8 * n) (replicate blockLength 0)
+
 module _ {b sheet : List ℕ} (h : Passed b sheet) (n : ℕ) (count : n ≡ sheetOf sheet .unitCount) where
   pub part-fits : 8 * n ≤ blockLength
   part-fits = omega (arith, fits 32 sheet (h .checked-sheet) .header .unitCount)
 
-  pub part-length : length (take (8 * n) (replicate {A = ℕ} blockLength 0)) ≡ 8 * n
+  pub part-length : length (partOf n) ≡ 8 * n
   part-length = length-take-le (8 * n) (replicate blockLength 0) part-fits
 
-  room : length (take (8 * n) (replicate {A = ℕ} blockLength 0)) ≡ 8 * sheetOf sheet .unitCount
+  room : length (partOf n) ≡ 8 * sheetOf sheet .unitCount
   room = omega (arith, part-length)
 
-  module _ (o : Outcome) (is : o ≡ settleAnswer sheet (take (8 * n) (replicate blockLength 0))) where
+  module _ (o : Outcome) (is : o ≡ settleAnswer sheet (partOf n)) where
     pub part-refused : (r : Refusal) → o ≡ Refused r → firstRefusal (monthRules (sheetOf sheet)) ≡ Refused r
     part-refused r e = sym (answer-is sheet _ (h .checked-sheet) room) ∙ sym is ∙ e
 
-    pub part-settled : o ≡ Accepted → (last : List ℕ) → last ≡ statementAfter sheet (take (8 * n) (replicate blockLength 0)) → Brings b sheet (last ++ drop (8 * n) (replicate blockLength 0))
+    pub part-settled : o ≡ Accepted → (last : List ℕ) → last ≡ statementAfter sheet (partOf n) → Brings b sheet (last ++ drop (8 * n) (replicate blockLength 0))
     part-settled ok last e =
         let written = statement-is sheet _ (h .checked-sheet) room (sym is ∙ ok) in
         let zeros = rest-untouched (8 * n) blockLength 0 ∙ ap (λ (k : ℕ). replicate (blockLength - 8 * k) 0) count in
