@@ -5,8 +5,8 @@ use mathlib.Core.List.{List, [], _∷_}
 use Prim.Native.Nat.{ℕ, _+_, _*_, _-_, _≤_, _<_}
 use native.Mathlib.Omega.{arith}
 use borrow.Author.Tests.{lt-ltb, le-ltb, eq-eqb, ne-eqb}
-use lib.ListN.{length, take, drop, replicate, length-append, length-drop}
-use lib.Seq.{take-all, take-at}
+use lib.ListN.{length, take, drop, replicate, length-drop, length-replicate}
+use lib.Seq.{take-all, length-take-le}
 use Rattle.sheet.specs.declared.refusal.Refusal.{Refusal}
 use Rattle.sheet.specs.declared.refusal.Refusal.the-variants.{BufferLength, BadArchive}
 use Rattle.sheet.specs.declared.refusal.Outcome.{Outcome}
@@ -15,75 +15,51 @@ use Rattle.sheet.specs.Refusals.{Rule, _⇒_, firstRefusal}
 use Rattle.sheet.specs.Layout.{Sheet, sheetOf, inBytes}
 use Rattle.sheet.specs.Check.{sameList, sheetRules, checked}
 use Rattle.sheet.proofs.Fits.{fits}
-use Rattle.month.specs.Month.{Month, Settled, refused, settled, statementOf, monthOf, monthRules, settledSheet, unlessRefused}
-use Rattle.month.proofs.Laws.{settled-month, settled-laws}
-use Rattle.settlement.specs.declared.settling.Settlement.{Settlement}
-use Rattle.settlement.specs.Settle.{settlementOf}
-use Rattle.settlement.proofs.Answers.{orElse, first-of-both, settled-in-order, month-held}
+use Rattle.month.specs.Month.{settled, statementOf, monthOf, monthRules, settledSheet}
+use Rattle.settlement.specs.Settle.{settleAnswer, statementAfter}
+use Rattle.settlement.proofs.Answers.{orElse, first-of-both, settled-in-order, answer-is, settles, statement-is}
 use Rattle.archive.specs.Record.{archiveHead, archiveRecord}
 use Rattle.archive.specs.Reader.{body, sheetLength, bodyRules, readRules, readOutcome}
-use Rattle.archive.specs.Writer.{answerOf, writeAnswer, listOf, recordAfter}
-use Rattle.archive.proofs.Inside.{inside, behind, same-count, all-length, same-sheet, inside-checked}
-use Rattle.archive.proofs.RoundTrip.{passed, checked-body}
+use Rattle.archive.specs.Writer.{writeAnswer, recordAfter}
+use Rattle.archive.specs.Inner.Lent.{Counted, WithRoom, Writes}
+use Rattle.archive.proofs.Inside.{end, inside, behind, all-length, same-sheet, inside-checked}
+use Rattle.archive.proofs.RoundTrip.{checked-body}
 
--- ---- what a settlement holds
-module _ (sheet : List ℕ) (r : Settlement) (is : r ≡ settlementOf (settledSheet sheet)) (ok : r .outcome ≡ Accepted) where
-  held : (m : Month) × (settledSheet sheet ≡ settled m)
-  held = month-held (settledSheet sheet) (sym (ap (λ (r : Settlement). r .outcome) is) ∙ ok)
+-- ---- the first 8n places of an array, lent
+pub lent-length : (size n : ℕ) → 8 * n ≤ size → length {A = ℕ} (take (8 * n) (replicate size 0)) ≡ 8 * n
+lent-length size n h = length-take-le (8 * n) (replicate size 0) (omega (arith, length-replicate {A = ℕ} size 0))
 
-  abbrev month : Month
-  month = held .0
-
-  same : r ≡ settlementOf (settled month)
-  same = is ∙ ap settlementOf (held .1)
-
-  count-is : r .count ≡ month .unitCount
-  count-is = ap (λ (r : Settlement). r .count) same
-
-  numbers-count : length (month .numbers) ≡ 8 * month .unitCount
-  numbers-count = settled-laws sheet month (held .1) .count
-
-  numbers-room : 8 * r .count ≤ length (r .numbers)
-  numbers-room = rw same (omega (arith, numbers-count, length-append (month .numbers) (replicate (1280 - 8 * month .unitCount) 0)))
-
-  numbers-are : take (8 * r .count) (r .numbers) ≡ month .numbers
-  numbers-are =
-      ap (λ (r : Settlement). take (8 * r .count) (r .numbers)) same
-      ∙ take-at (month .numbers) (replicate (1280 - 8 * month .unitCount) 0) (8 * month .unitCount) numbers-count
-
-  month-is : month ≡ monthOf (sheetOf sheet)
-  month-is = settled-month sheet month (held .1) .1
-
-  sheet-count : r .count ≡ sheetOf sheet .unitCount
-  unfolding monthOf
-  sheet-count = count-is ∙ ap (λ (m : Month). m .unitCount) month-is
+pub with-room : {perUnit : ℕ} {bytes : List ℕ} {n : ℕ} (size : ℕ) → Counted perUnit bytes n → 8 * n ≤ size → WithRoom perUnit bytes (take (8 * n) (replicate size 0))
+with-room {n = n} size c h = record { passed = c .passed; room = lent-length size n h ∙ ap (λ (k : ℕ). 8 * k) (c .count) }
 
 -- ---- the writer: 1 to 12, then 13
-list-kept : (x : Settled) (q : Refusal) (sheet list : List ℕ) → settlementOf x .outcome ≡ Refused q → (Refused q ≡ answerOf x (length list)) × (list ≡ listOf x sheet list)
-list-kept (settled m) q sheet list e = absurd (let z : _≡_ {A = ℕ} 0 1 = cc in omega arith)
-list-kept (refused p) q sheet list e = (sym e, refl)
+pub record-room : (sheet : List ℕ) → checked 32 sheet ≡ Accepted → (length sheet ≡ 48 + 32 * sheetOf sheet .unitCount) × (sheetOf sheet .unitCount ≤ 160)
+record-room sheet e = let f = fits 32 sheet e in (f .byteCount, f .header .unitCount)
 
-module _ (sheet list : List ℕ) (r : Settlement) (is : r ≡ settlementOf (settledSheet sheet)) where
-  pub refused-sheet : (q : Refusal) → r .outcome ≡ Refused q → (r .outcome ≡ writeAnswer sheet list) × (list ≡ recordAfter sheet list)
+module _ (sheet list : List ℕ) where
+  pub refused-sheet : (o : Outcome) (q : Refusal) → o ≡ checked 32 sheet → o ≡ Refused q → Writes o sheet list list
   unfolding writeAnswer recordAfter
-  refused-sheet q e = rw e (list-kept (settledSheet sheet) q sheet list (sym (ap (λ (r : Settlement). r .outcome) is) ∙ e))
+  refused-sheet o q is e = rw (settled-in-order sheet, sym is ∙ e, e) (refl, refl)
 
-  module _ (ok : r .outcome ≡ Accepted) where
-    pub wrong-length : (length list ≡ 56 + 64 * r .count → ⊥) → (Refused BufferLength ≡ writeAnswer sheet list) × (list ≡ recordAfter sheet list)
+  module _ (numbers : List ℕ) (w : WithRoom 32 sheet numbers) (o : Outcome) (is : o ≡ settleAnswer sheet numbers) where
+    pub refused-month : (q : Refusal) → o ≡ Refused q → Writes o sheet list list
     unfolding writeAnswer recordAfter
-    wrong-length h = rw (held sheet r is ok .1, ne-eqb (length list) (56 + 64 * month sheet r is ok .unitCount) (λ e. h (omega (arith, count-is sheet r is ok)))) (refl, refl)
+    refused-month q e = rw (settled-in-order sheet, w .passed, sym (answer-is sheet numbers (w .passed) (w .room)) ∙ sym is ∙ e, e) (refl, refl)
 
-    pub written : length list ≡ 56 + 64 * r .count → (out : List ℕ) → out ≡ archiveRecord sheet (take (8 * r .count) (r .numbers)) → (Accepted ≡ writeAnswer sheet list) × (out ≡ recordAfter sheet list)
-    unfolding writeAnswer recordAfter
-    written h out e =
-        rw (held sheet r is ok .1, eq-eqb (length list) (56 + 64 * month sheet r is ok .unitCount) (omega (arith, count-is sheet r is ok)))
-        (refl, e ∙ ap (archiveRecord sheet) (numbers-are sheet r is ok))
+    module _ (ok : o ≡ Accepted) where
+      is-settled : settledSheet sheet ≡ settled (monthOf (sheetOf sheet))
+      is-settled = settles sheet numbers (w .passed) (w .room) (sym is ∙ ok)
 
-    pub fits-record : (length sheet ≡ 48 + 32 * r .count) × (8 * r .count ≤ length (r .numbers)) × (r .count ≤ 160)
-    fits-record =
-        let f = fits 32 sheet (passed sheet (month sheet r is ok) (held sheet r is ok .1) .0) in
-        let n = sheet-count sheet r is ok in
-        (omega (arith, f .byteCount), numbers-room sheet r is ok, omega (arith, f .header .unitCount))
+      -- head, sheet and statement are 56 + 64n bytes
+      pub wrong-length : (length list ≡ 8 + length sheet + 4 * length numbers → ⊥) → Writes (Refused BufferLength) sheet list list
+      unfolding writeAnswer recordAfter monthOf
+      wrong-length h = rw (is-settled, ne-eqb (length list) (56 + 64 * sheetOf sheet .unitCount) (λ e. h (omega (arith, w .room, record-room sheet (w .passed) .0)))) (refl, refl)
+
+      pub written : length list ≡ 8 + length sheet + 4 * length numbers → (after out : List ℕ) → after ≡ statementAfter sheet numbers → out ≡ archiveRecord sheet after → Writes Accepted sheet list out
+      unfolding writeAnswer recordAfter monthOf
+      written h after out last e =
+          rw (is-settled, eq-eqb (length list) (56 + 64 * sheetOf sheet .unitCount) (omega (arith, w .room, record-room sheet (w .passed) .0)))
+          (refl, e ∙ ap (archiveRecord sheet) (last ∙ statement-is sheet numbers (w .passed) (w .room) (sym is ∙ ok)))
 
 -- ---- the reader: 14, 1 to 7, 8 to 12, 14
 -- a part up to the end, as the code cuts it
@@ -125,53 +101,42 @@ module _ (bytes : List ℕ) where
     pub sheet-part : take (56 + 32 * n - 8) (drop 8 bytes) ≡ take (sheetLength bytes) (drop 8 bytes)
     sheet-part = let e : 56 + 32 * n - 8 ≡ sheetLength bytes = omega (arith, body-count) in ap (λ (k : ℕ). take k (drop 8 bytes)) e
 
-outcome-kept : (o : Outcome) (m : Month) → settlementOf (unlessRefused o m) .outcome ≡ o
-outcome-kept Accepted m = refl
-outcome-kept (Refused r) m = refl
+-- 8 to 12 of the sheet inside, then its statement; the code cuts at k
+module _ (bytes numbers : List ℕ) (w : WithRoom 64 bytes numbers) (k : ℕ) (at : k ≡ 48 + 4 * length numbers) where
+  cut : k ≡ end bytes
+  cut = omega (arith, at, w .room)
 
--- 8 to 12 of the sheet inside, then its statement
-module _ (bytes : List ℕ) (e : checked 64 bytes ≡ Accepted) (n : ℕ) (count : n ≡ sheetOf bytes .unitCount) (r : Settlement) (of : r ≡ settlementOf (settledSheet (take (48 + 32 * n) bytes))) where
-  is : r ≡ settlementOf (settledSheet (inside bytes))
-  is = of ∙ ap (λ (k : ℕ). settlementOf (settledSheet (take (48 + 32 * k) bytes))) count
+  cut-inside : take k bytes ≡ inside bytes
+  cut-inside = ap (λ (k : ℕ). take k bytes) cut
 
-  outcome-is : r .outcome ≡ firstRefusal (monthRules (sheetOf bytes))
-  outcome-is =
-      let s = sheetOf (inside bytes) in
-      let o = firstRefusal (monthRules s) in
-      ap (λ (r : Settlement). r .outcome) (is ∙ ap settlementOf (settled-in-order (inside bytes) ∙ ap (λ (x : Outcome). unlessRefused (orElse x o) (monthOf s)) (inside-checked bytes e)))
-      ∙ outcome-kept o (monthOf s)
-      ∙ ap (λ (s : Sheet). firstRefusal (monthRules s)) (sym (same-sheet bytes e))
+  pub cut-long : length bytes ≡ k + 4 * length numbers
+  cut-long = omega (arith, at, w .room, all-length bytes (w .passed))
+
+  pub cut-checked : checked 32 (take k bytes) ≡ Accepted
+  cut-checked = ap (checked 32) cut-inside ∙ inside-checked bytes (w .passed)
+
+  same : sheetOf (take k bytes) ≡ sheetOf bytes
+  same = ap sheetOf cut-inside ∙ sym (same-sheet bytes (w .passed))
+
+  cut-room : length numbers ≡ 8 * sheetOf (take k bytes) .unitCount
+  cut-room = w .room ∙ ap (λ (s : Sheet). 8 * s .unitCount) (sym same)
 
   abbrev last : List Rule
   last = (not (sameList (behind bytes) (inBytes (statementOf (sheetOf bytes)))) ⇒ BadArchive) ∷ []
 
-  by-month : firstRefusal (bodyRules bytes) ≡ orElse (r .outcome) (firstRefusal last)
-  unfolding bodyRules
-  by-month = first-of-both (monthRules (sheetOf bytes)) last ∙ ap (λ (o : Outcome). orElse o (firstRefusal last)) (sym outcome-is)
+  module _ (o : Outcome) (is : o ≡ settleAnswer (take k bytes) numbers) where
+    by-month : firstRefusal (bodyRules bytes) ≡ orElse o (firstRefusal last)
+    unfolding bodyRules
+    by-month =
+        let month = is ∙ answer-is (take k bytes) numbers cut-checked cut-room ∙ ap (λ (s : Sheet). firstRefusal (monthRules s)) same in
+        first-of-both (monthRules (sheetOf bytes)) last ∙ ap (λ (o : Outcome). orElse o (firstRefusal last)) (sym month)
 
-  pub refused-body : (q : Refusal) → r .outcome ≡ Refused q → r .outcome ≡ firstRefusal (bodyRules bytes)
-  refused-body q h = h ∙ sym (by-month ∙ rw h)
+    pub refused-body : (q : Refusal) → o ≡ Refused q → o ≡ firstRefusal (bodyRules bytes)
+    refused-body q h = h ∙ sym (by-month ∙ rw h)
 
-  module _ (ok : r .outcome ≡ Accepted) where
-    count-held : r .count ≡ n
-    count-held = omega (arith, sheet-count (inside bytes) r is ok, same-count bytes)
-
-    pub statement-room : (length (from (48 + 32 * n) bytes) ≡ 4 * (8 * n)) × (8 * n ≤ length (r .numbers)) × (8 * n ≤ 1280)
-    statement-room =
-        let long = all-length bytes e in
-        let few = fits 64 bytes e .header .unitCount in
-        (rw (to-end (48 + 32 * n) bytes) (omega (arith, length-drop (48 + 32 * n) bytes)), omega (arith, count-held, numbers-room (inside bytes) r is ok), omega arith)
-
-    numbers-held : take (8 * n) (r .numbers) ≡ statementOf (sheetOf bytes)
-    unfolding monthOf
-    numbers-held =
-        ap (λ (k : ℕ). take (8 * k) (r .numbers)) (sym count-held)
-        ∙ numbers-are (inside bytes) r is ok
-        ∙ ap (λ (m : Month). m .numbers) (month-is (inside bytes) r is ok)
-        ∙ ap statementOf (sym (same-sheet bytes e))
-
-    pub by-statement : (t : Bool) → t ≡ sameList (from (48 + 32 * n) bytes) (inBytes (take (8 * n) (r .numbers))) → firstRefusal ((not t ⇒ BadArchive) ∷ []) ≡ firstRefusal (bodyRules bytes)
-    by-statement t h =
-        let end : from (48 + 32 * n) bytes ≡ behind bytes = to-end (48 + 32 * n) bytes ∙ ap (λ (k : ℕ). drop (48 + 32 * k) bytes) count in
-        let test = h ∙ ap₂ (λ (x y : List ℕ). sameList x (inBytes y)) end numbers-held in
+    pub by-statement : o ≡ Accepted → (after : List ℕ) → after ≡ statementAfter (take k bytes) numbers → (t : Bool) → t ≡ sameList (from k bytes) (inBytes after) → firstRefusal ((not t ⇒ BadArchive) ∷ []) ≡ firstRefusal (bodyRules bytes)
+    by-statement ok after are t h =
+        let end : from k bytes ≡ behind bytes = to-end k bytes ∙ ap (λ (k : ℕ). drop k bytes) cut in
+        let numbers-are = are ∙ statement-is (take k bytes) numbers cut-checked cut-room (sym is ∙ ok) ∙ ap statementOf same in
+        let test = h ∙ ap₂ (λ (x y : List ℕ). sameList x (inBytes y)) end numbers-are in
         ap (λ (t : Bool). firstRefusal ((not t ⇒ BadArchive) ∷ [])) test ∙ sym (by-month ∙ ap (λ (o : Outcome). orElse o (firstRefusal last)) ok)

@@ -23,7 +23,7 @@ module _ (bytes : List ℕ) where
   behind = drop end bytes
 
   -- n stands in the first 48 bytes
-  pub same-count : sheetOf inside .unitCount ≡ sheetOf bytes .unitCount
+  same-count : sheetOf inside .unitCount ≡ sheetOf bytes .unitCount
   unfolding sheetOf
   same-count =
       let at : (k : ℕ) → k < 48 → getD inside k 0 ≡ getD bytes k 0 = λ k h. getD-take end bytes k 0 (omega arith) in

@@ -29,7 +29,7 @@ module _ (sheet : List ℕ) (m : Month) (e : settledSheet sheet ≡ settled m) w
   abbrev behind : List ℕ
   behind = inBytes (m .numbers)
 
-  pub passed : (checked 32 sheet ≡ Accepted) × NoneHolds (monthRules (sheetOf sheet))
+  passed : (checked 32 sheet ≡ Accepted) × NoneHolds (monthRules (sheetOf sheet))
   unfolding settleRules checked
   passed =
       let both = none-of-both (sheetRules 32 sheet) (monthRules (sheetOf sheet)) (none-holds _ (settled-month sheet m e .0)) in

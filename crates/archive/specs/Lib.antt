@@ -3,4 +3,5 @@ pub mod Record
 pub mod Writer
 pub mod Reader
 pub mod Theorems
+pub mod Inner
 pub mod Cases

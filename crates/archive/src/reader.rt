@@ -8,6 +8,7 @@ ghost use Rattle.sheet.specs.Refusals.{firstRefusal};
 ghost use Rattle.sheet.specs.Check.{checked, sameList};
 ghost use Rattle.archive.specs.Record.{archiveHead};
 ghost use Rattle.archive.specs.Reader.{bodyRules, readOutcome, startOf, countOf, PartOf};
+ghost use Rattle.archive.specs.Inner.Lent.{Counted, WithRoom};
 use crate::head::HEAD;
 use sheet::Outcome;
 use sheet::Refusal;
@@ -27,12 +28,12 @@ fn head_fits(bytes: &[u8]) -> bool
     true
 }
 
-// The bytes are the first `count` numbers, four bytes each.
-fn same_statement(bytes: &[u8], numbers: &[u32], count: usize) -> bool
-    requires { ⌜ (length (now bytes) ≡ 4 * count) × (count ≤ length (now numbers)) × (count ≤ 1280) ⌝ }
-    ensures { λ r. ⌜ r ≡ sameList (now (bytes .entry)) (inBytes (take count (now (numbers .entry)))) ⌝ }
+// The bytes are the numbers, four bytes each.
+fn same_statement(bytes: &[u8], numbers: &[u32]) -> bool
+    requires { ⌜ (length (now bytes) ≡ 4 * length (now numbers)) × (length (now numbers) ≤ 1280) ⌝ }
+    ensures { λ r. ⌜ r ≡ sameList (now (bytes .entry)) (inBytes (now (numbers .entry))) ⌝ }
 {
-    for i in 0..count {
+    for i in 0..numbers.len() {
         if read32(bytes, 4 * i) != numbers[i] {
             return false;
         }
@@ -40,23 +41,48 @@ fn same_statement(bytes: &[u8], numbers: &[u32], count: usize) -> bool
     true
 }
 
-// 8 to 12 of the sheet at the front, then its statement behind it.
+// 8 to 12 of the sheet at the front by way of a list of 8n numbers, then its statement behind it.
+fn check_in(body: &[u8], numbers: &mut [u32]) -> Outcome
+    requires { ⌜ WithRoom 64 (now body) (now numbers) ⌝ }
+    ensures { λ r. ⌜ r ≡ firstRefusal (bodyRules (now (body .entry))) ⌝ }
+{
+    let end = 48 + 4 * numbers.len();
+    let outcome = settlement::settle_checked(&body[..end], numbers);
+    let Outcome::Accepted = outcome else {
+        return outcome;
+    };
+    if !same_statement(&body[end..], numbers) {
+        return Outcome::Refused(Refusal::BadArchive);
+    }
+    Outcome::Accepted
+}
+
+fn check_up_to_16(body: &[u8], n: usize) -> Outcome
+    requires { ⌜ Counted 64 (now body) n × (n ≤ 16) ⌝ }
+    ensures { λ r. ⌜ r ≡ firstRefusal (bodyRules (now (body .entry))) ⌝ }
+{
+    let mut numbers = [0u32; 128];
+    check_in(body, &mut numbers[..8 * n])
+}
+
+fn check_up_to_160(body: &[u8], n: usize) -> Outcome
+    requires { ⌜ Counted 64 (now body) n × (n ≤ 160) ⌝ }
+    ensures { λ r. ⌜ r ≡ firstRefusal (bodyRules (now (body .entry))) ⌝ }
+{
+    let mut numbers = [0u32; 1280];
+    check_in(body, &mut numbers[..8 * n])
+}
+
+// Past 1 to 7; few units need little room.
 fn check_statement(body: &[u8]) -> Outcome
     requires { ⌜ checked 64 (now body) ≡ Accepted ⌝ }
     ensures { λ r. ⌜ r ≡ firstRefusal (bodyRules (now (body .entry))) ⌝ }
 {
     let n = header::header_field(body, header::UNIT_COUNT) as usize;
-    let end = 48 + 32 * n;
-    let settled = settlement::settled_checked(&body[..end]);
-    let outcome = settled.outcome;
-    let numbers = settled.numbers;
-    let Outcome::Accepted = outcome else {
-        return outcome;
-    };
-    if !same_statement(&body[end..], &numbers, 8 * n) {
-        return Outcome::Refused(Refusal::BadArchive);
+    if n <= 16 {
+        return check_up_to_16(body, n);
     }
-    Outcome::Accepted
+    check_up_to_160(body, n)
 }
 
 // Any bytes: 14, 1 to 12, 14.

@@ -6,9 +6,11 @@ ghost use lib.ListN.{length, take};
 ghost use Rattle.sheet.specs.Layout.{bytes32, inBytes};
 ghost use Rattle.archive.specs.Record.{archiveRecord};
 ghost use Rattle.archive.specs.Writer.{writeAnswer, recordAfter};
+ghost use Rattle.archive.specs.Inner.Lent.{Counted, WithRoom, Writes};
 use crate::head::HEAD;
 use sheet::Outcome;
 use sheet::Refusal;
+use sheet::header;
 
 // A list of bytes over another of the same length.
 fn put_bytes(from: &[u8], to: &mut [u8])
@@ -30,41 +32,72 @@ fn put_four(x: u32, to: &mut [u8], at: usize)
     to[at + 3] = (x / 16777216 % 256) as u8;
 }
 
-// The first `count` numbers, four bytes each.
-fn put_numbers(numbers: &[u32], count: usize, to: &mut [u8])
-    requires { ⌜ (length (now to) ≡ 4 * count) × (count ≤ length (now numbers)) × (count ≤ 1280) ⌝ }
-    ensures { λ r. ⌜ now (to .exit) ≡ inBytes (take count (now (numbers .entry))) ⌝ }
+// Numbers of four bytes each.
+fn put_numbers(numbers: &[u32], to: &mut [u8])
+    requires { ⌜ (length (now to) ≡ 4 * length (now numbers)) × (length (now numbers) ≤ 1280) ⌝ }
+    ensures { λ r. ⌜ now (to .exit) ≡ inBytes (now (numbers .entry)) ⌝ }
 {
-    for i in 0..count {
+    for i in 0..numbers.len() {
         put_four(numbers[i], to, 4 * i);
     }
 }
 
 // Head, sheet and statement into a list of their length.
-fn put_record(sheet: &[u8], numbers: &[u32], n: usize, out: &mut [u8])
-    requires { ⌜ (length (now sheet) ≡ 48 + 32 * n) × (8 * n ≤ length (now numbers)) × (n ≤ 160) × (length (now out) ≡ 56 + 64 * n) ⌝ }
-    ensures { λ r. ⌜ now (out .exit) ≡ archiveRecord (now (sheet .entry)) (take (8 * n) (now (numbers .entry))) ⌝ }
+fn put_record(sheet: &[u8], numbers: &[u32], out: &mut [u8])
+    requires { ⌜ (length (now sheet) ≤ 5168) × (length (now numbers) ≤ 1280) ⌝ }
+    requires { ⌜ length (now out) ≡ 8 + length (now sheet) + 4 * length (now numbers) ⌝ }
+    ensures { λ r. ⌜ now (out .exit) ≡ archiveRecord (now (sheet .entry)) (now (numbers .entry)) ⌝ }
 {
-    let end = 56 + 32 * n;
+    let end = 8 + sheet.len();
     put_bytes(&HEAD, &mut out[..8]);
     put_bytes(sheet, &mut out[8..end]);
-    put_numbers(numbers, 8 * n, &mut out[end..]);
+    put_numbers(numbers, &mut out[end..]);
 }
 
-// The record of a sheet into a list of 56 + 64n bytes: 1 to 12, then 13. A refused call leaves the list as it was.
-pub fn write(sheet: &[u8], out: &mut [u8]) -> Outcome
-    ensures { λ r. ⌜ (r ≡ writeAnswer (now (sheet .entry)) (now (out .entry))) × (now (out .exit) ≡ recordAfter (now (sheet .entry)) (now (out .entry))) ⌝ }
+// 8 to 12 by way of a list of 8n numbers, then 13, then the record.
+fn write_in(sheet: &[u8], numbers: &mut [u32], out: &mut [u8]) -> Outcome
+    requires { ⌜ WithRoom 32 (now sheet) (now numbers) ⌝ }
+    ensures { λ r. ⌜ Writes r (now (sheet .entry)) (now (out .entry)) (now (out .exit)) ⌝ }
 {
-    let settled = settlement::settle_sheet(sheet);
-    let outcome = settled.outcome;
-    let numbers = settled.numbers;
+    let outcome = settlement::settle_checked(sheet, numbers);
     let Outcome::Accepted = outcome else {
         return outcome;
     };
-    let n = settled.count as usize;
-    if out.len() != 56 + 64 * n {
+    if out.len() != 8 + sheet.len() + 4 * numbers.len() {
         return Outcome::Refused(Refusal::BufferLength);
     }
-    put_record(sheet, &numbers, n, out);
+    put_record(sheet, numbers, out);
     Outcome::Accepted
+}
+
+fn write_up_to_16(sheet: &[u8], n: usize, out: &mut [u8]) -> Outcome
+    requires { ⌜ Counted 32 (now sheet) n × (n ≤ 16) ⌝ }
+    ensures { λ r. ⌜ Writes r (now (sheet .entry)) (now (out .entry)) (now (out .exit)) ⌝ }
+{
+    let mut numbers = [0u32; 128];
+    write_in(sheet, &mut numbers[..8 * n], out)
+}
+
+fn write_up_to_160(sheet: &[u8], n: usize, out: &mut [u8]) -> Outcome
+    requires { ⌜ Counted 32 (now sheet) n × (n ≤ 160) ⌝ }
+    ensures { λ r. ⌜ Writes r (now (sheet .entry)) (now (out .entry)) (now (out .exit)) ⌝ }
+{
+    let mut numbers = [0u32; 1280];
+    write_in(sheet, &mut numbers[..8 * n], out)
+}
+
+// The record of a sheet into a list of 56 + 64n bytes: 1 to 12, then 13. A refused call leaves the list as it was.
+// Few units need little room.
+pub fn write(sheet: &[u8], out: &mut [u8]) -> Outcome
+    ensures { λ r. ⌜ (r ≡ writeAnswer (now (sheet .entry)) (now (out .entry))) × (now (out .exit) ≡ recordAfter (now (sheet .entry)) (now (out .entry))) ⌝ }
+{
+    let outcome = sheet::check_sheet(sheet);
+    let Outcome::Accepted = outcome else {
+        return outcome;
+    };
+    let n = header::header_field(sheet, header::UNIT_COUNT) as usize;
+    if n <= 16 {
+        return write_up_to_16(sheet, n, out);
+    }
+    write_up_to_160(sheet, n, out)
 }

@@ -1,6 +1,6 @@
 -- Invariant: the first i numbers stand in the first 4 i bytes.
 use borrow.Author.Needs.{needs}
-use mathlib.Core.Path.{_≡_, refl, sym, _∙_}
+use mathlib.Core.Path.{_≡_, refl, sym, ap, _∙_}
 use Prim.Native.Nat.{_+_, _*_, _-_, _≤_, _<_}
 use native.Mathlib.Omega.{arith}
 use native.Mathlib.Numerals.{add-one}
@@ -12,14 +12,14 @@ use Rattle.archive.proofs.writer.put_numbers.Statement.{statement}
 use Rattle.archive.proofs.writer.put_numbers.Tie as tie
 
 abbrev Inv-loop : tie.InvT-loop
-Inv-loop numbers count to₀ i₀ to i = (i ≤ count) × (length to ≡ 4 * count) × (take (4 * i) to ≡ inBytes (take i numbers))
+Inv-loop numbers to₀ i₀ i-end to i = (i ≤ i-end) × (i-end ≡ length numbers) × (length to ≡ 4 * i-end) × (take (4 * i) to ≡ inBytes (take i numbers))
 
 abbrev μ-loop : tie.MeasureT-loop
-μ-loop numbers count to₀ i₀ to i = count - i
+μ-loop numbers to₀ i₀ i-end to i = i-end - i
 
 loop-holds : tie.Need-loop-holds Inv-loop μ-loop
 unfolding inBytes
-loop-holds c = (omega arith, c .before .before .pre .0, refl)
+loop-holds c = (omega arith, refl, c .before .before .pre .0, refl)
 
 mul-put-four : tie.Need-mul-put-four Inv-loop μ-loop
 mul-put-four c = search needs
@@ -47,7 +47,7 @@ loop-again c =
     let f = c .before .before .put-four in
     let from : l .i < length (a .numbers .now) = omega arith in
     let e : 4 * (l .i + 1) ≡ 4 * l .i + 4 = omega arith in
-    (omega arith, omega (arith, f .kept), rw (e, f .ensures, l .inv .2, add-one, take-suc (a .numbers .now) (l .i) 0 from, bytes-append))
+    (omega arith, l .inv .1, omega (arith, f .kept), rw (e, f .ensures, l .inv .3, add-one, take-suc (a .numbers .now) (l .i) 0 from, bytes-append))
 
 same-length : tie.Need-same-length Inv-loop μ-loop
 same-length c = omega arith
@@ -56,8 +56,7 @@ returns : tie.Need-returns Inv-loop μ-loop
 returns c =
     let a = c .before .before .before .before .args in
     let l = c .before .loop in
-    let e : l .i ≡ a .count = omega arith in
-    sym (take-all (4 * l .i) (l .to) (omega arith)) ∙ l .inv .2 ∙ rw e
+    sym (take-all (4 * l .i) (l .to) (omega arith)) ∙ l .inv .3 ∙ ap inBytes (take-all (l .i) (a .numbers .now) (omega arith))
 
 pub put-numbers-spec : {M : Type 1} → statement M
 put-numbers-spec =

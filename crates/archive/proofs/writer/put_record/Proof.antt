@@ -1,18 +1,15 @@
 -- The three parts, one after the other, fill the list.
 use mathlib.Core.Path.{sym, ap, _∙_}
 use mathlib.Core.List.{_++_}
-use Prim.Native.Nat.{_+_, _*_}
+use Prim.Native.Nat.{_+_}
 use native.Mathlib.Omega.{arith}
-use borrow.Author.Needs.{needs}
 use lib.ListN.{length}
 use lib.Seq.{length-take-le}
 use Rattle.archive.specs.Record.{archiveRecord}
 use Rattle.archive.proofs.Bytes.{three-put}
+use borrow.Author.Needs.{needs}
 use Rattle.archive.proofs.writer.put_record.Statement.{statement}
 use Rattle.archive.proofs.writer.put_record.Tie as tie
-
-mul-end : tie.Need-mul-end
-mul-end c = search needs
 
 add-end : tie.Need-add-end
 add-end c = search needs
@@ -41,9 +38,6 @@ part-put-bytes-end c = search needs
 put-bytes-requires-2 : tie.Need-put-bytes-requires-2
 put-bytes-requires-2 c κs = search needs
 
-mul-put-numbers : tie.Need-mul-put-numbers
-mul-put-numbers c = search needs
-
 sub-put-numbers : tie.Need-sub-put-numbers
 sub-put-numbers c = search needs
 
@@ -66,14 +60,13 @@ returns c =
     let h = c .before .before .before .before .before .before .before .before .before .before .put-bytes in
     let s = c .before .before .before .before .before .before .put-bytes2 in
     let t = c .before .before .put-numbers in
-    three-put (a .out .now) (h .last .1 .0) (s .last .1 .0) (t .last .1 .1 .0) (56 + 32 * a .n) (omega (arith, ap length (h .ensures))) (omega (arith, ap length (s .ensures)))
+    three-put (a .out .now) (h .last .1 .0) (s .last .1 .0) (t .last .1 .0) (8 + length (a .sheet .now)) (omega (arith, ap length (h .ensures))) (omega (arith, ap length (s .ensures)))
     ∙ (λ i. h .ensures i ++ (s .ensures i ++ t .ensures i))
 
 pub put-record-spec : {M : Type 1} → statement M
 put-record-spec =
     tie.close
     (tie.spec
-    mul-end
     add-end
     slice-aggregate-put-bytes
     slice-relend-prefix-put-bytes
@@ -83,7 +76,6 @@ put-record-spec =
     part-put-bytes-start
     part-put-bytes-end
     put-bytes-requires-2
-    mul-put-numbers
     sub-put-numbers
     part-put-numbers-start
     part-put-numbers-end

@@ -1,11 +1,24 @@
--- 13 after 1 to 12; the list is written only then.
+-- 1 to 7, then the room by how many units there are.
+use mathlib.Core.Path.{_≡_, sym, _∙_}
+use mathlib.Core.List.{List}
+use Prim.Native.Nat.{ℕ}
+use native.Mathlib.Omega.{arith}
 use borrow.Author.Needs.{needs}
-use Rattle.archive.proofs.Answers.{refused-sheet, wrong-length, fits-record, written}
+use Rattle.sheet.specs.declared.refusal.Outcome.the-variants.{Accepted}
+use Rattle.sheet.specs.Check.{checked}
+use Rattle.archive.proofs.Answers.{refused-sheet, record-room}
 use Rattle.archive.proofs.writer.write.Statement.{statement}
 use Rattle.archive.proofs.writer.write.Tie as tie
 
-settle-sheet-requires : tie.Need-settle-sheet-requires
-settle-sheet-requires c κs = search needs
+-- past 1 to 7
+abbrev bytesOf : tie.After-enum-told → List ℕ
+bytesOf c = c .before .before .before .before .before .args .sheet .now
+
+passed : (c : tie.After-enum-told) → checked 32 (bytesOf c) ≡ Accepted
+passed c = sym (c .before .before .check-sheet .ensures) ∙ c .enum-told .given .1
+
+check-sheet-requires : tie.Need-check-sheet-requires
+check-sheet-requires c κs = search needs
 
 enum-told : tie.Need-enum-told
 enum-told c = search needs
@@ -15,57 +28,49 @@ enum-told-2 c = search needs
 
 returns : tie.Need-returns
 returns c =
-    let a = c .before .before .before .before .before .before .args in
-    let r = c .before .before .before .settle-sheet in
-    refused-sheet (a .sheet .now) (a .out .now) (r .result) (r .ensures) _ (c .enum-told2 .given .1)
+    let a = c .before .before .before .before .before .args in
+    let o = c .before .before .check-sheet in
+    refused-sheet (a .sheet .now) (a .out .now) (o .result) _ (o .ensures) (c .enum-told2 .given .1)
+
+header-field-requires : tie.Need-header-field-requires
+header-field-requires c κs = (omega (arith, record-room _ (passed c)), omega arith)
 
 cast-n : tie.Need-cast-n
 cast-n c = search needs
 
-mul-if1 : tie.Need-mul-if1
-mul-if1 c = search needs
-
-add-if1 : tie.Need-add-if1
-add-if1 c = search needs
-
-returns-2 : tie.Need-returns-2
-returns-2 c =
-    let a = c .before .before .before .before .before .before .before .before .args in
-    let r = c .before .before .before .before .before .settle-sheet in
-    wrong-length (a .sheet .now) (a .out .now) (r .result) (r .ensures) (c .before .before .enum-told .given .1) (c .if1 .taken)
-
-slice-aggregate-put-record : tie.Need-slice-aggregate-put-record
-slice-aggregate-put-record c = search needs
-
-put-record-requires : tie.Need-put-record-requires
-put-record-requires c κs =
-    let a = c .before .before .before .before .before .before .before .before .before .before .args in
-    let r = c .before .before .before .before .before .before .before .settle-sheet in
-    let f = fits-record (a .sheet .now) (a .out .now) (r .result) (r .ensures) (c .before .before .before .before .enum-told .given .1) in
-    (f .0, f .1, f .2, c .before .before .if1 .left)
+write-up-to-16-requires : tie.Need-write-up-to-16-requires
+write-up-to-16-requires c κs = (record { passed = passed (c .before .before .before); count = c .before .before .header-field .ensures }, c .before .if1 .taken)
 
 same-length : tie.Need-same-length
 same-length c = search needs
 
+returns-2 : tie.Need-returns-2
+returns-2 c = search needs
+
+write-up-to-160-requires : tie.Need-write-up-to-160-requires
+write-up-to-160-requires c κs =
+    let n = c .before .before .header-field .ensures in
+    (record { passed = passed (c .before .before .before); count = n }, omega (arith, n, record-room _ (passed (c .before .before .before))))
+
+same-length-2 : tie.Need-same-length-2
+same-length-2 c = search needs
+
 returns-3 : tie.Need-returns-3
-returns-3 c =
-    let a = c .before .before .before .before .before .before .before .before .before .before .before .before .before .args in
-    let r = c .before .before .before .before .before .before .before .before .before .before .settle-sheet in
-    written (a .sheet .now) (a .out .now) (r .result) (r .ensures) (c .before .before .before .before .before .before .before .enum-told .given .1) (c .before .before .before .before .before .if1 .left) (c .before .before .put-record .last .1 .1 .1 .0) (c .before .before .put-record .ensures)
+returns-3 c = search needs
 
 pub write-spec : {M : Type 1} → statement M
 write-spec =
     tie.close
     (tie.spec
-    settle-sheet-requires
+    check-sheet-requires
     enum-told
     enum-told-2
     returns
+    header-field-requires
     cast-n
-    mul-if1
-    add-if1
-    returns-2
-    slice-aggregate-put-record
-    put-record-requires
+    write-up-to-16-requires
     same-length
+    returns-2
+    write-up-to-160-requires
+    same-length-2
     returns-3)

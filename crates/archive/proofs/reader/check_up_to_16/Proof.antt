@@ -1,0 +1,32 @@
+-- The first 8n places of the array are lent.
+use mathlib.Core.Path.{sym}
+use native.Mathlib.Omega.{arith}
+use Rattle.archive.proofs.Answers.{lent-length, with-room}
+use borrow.Author.Needs.{needs}
+use Rattle.archive.proofs.reader.check_up_to_16.Statement.{statement}
+use Rattle.archive.proofs.reader.check_up_to_16.Tie as tie
+
+mul-numbers : tie.Need-mul-numbers
+mul-numbers c = search needs
+
+array-borrow-prefix-numbers : tie.Need-array-borrow-prefix-numbers
+array-borrow-prefix-numbers c = search needs
+
+slice-aggregate-check-in : tie.Need-slice-aggregate-check-in
+slice-aggregate-check-in c = let st = c .before .before in sym (lent-length 128 (st .args .n) (omega (arith, st .pre .1)))
+
+check-in-requires : tie.Need-check-in-requires
+check-in-requires c κs = let st = c .before .before in with-room 128 (st .pre .0) (omega (arith, st .pre .1))
+
+returns : tie.Need-returns
+returns c = search needs
+
+pub check-up-to-16-spec : {M : Type 1} → statement M
+check-up-to-16-spec =
+    tie.close
+    (tie.spec
+    mul-numbers
+    array-borrow-prefix-numbers
+    slice-aggregate-check-in
+    check-in-requires
+    returns)
