@@ -1,9 +1,16 @@
 // What the program `statement` reads and prints (document 01, "Printing").
-ghost use Prim.Native.Nat.{_<_};
+ghost use mathlib.Core.Path.{_≡_};
+ghost use Prim.Native.Nat.{_+_, _*_, _≤_, _<_};
+ghost use lib.ListN.{length};
+ghost use Rattle.sheet.specs.declared.refusal.Outcome.the-variants.{Accepted};
+ghost use Rattle.sheet.specs.Layout.{sheetOf};
+ghost use Rattle.sheet.specs.Check.{checked};
+ghost use Rattle.sheet.specs.Inner.Fits.{Fits};
 use libc::STDIN_FILENO;
 use libc::STDOUT_FILENO;
 use sheet::Outcome;
 use sheet::Refusal;
+use sheet::header;
 use sheet::rows;
 
 // `refused`, number, place.
@@ -14,15 +21,17 @@ fn print_refusal(r: Refusal) {
 }
 
 // Month, n, M, bill.
-fn print_head(month: u32, count: u32, meter: u32, bill: u32) {
+fn print_head(sheet: &[u8])
+    requires { ⌜ Fits 32 (now sheet) ⌝ }
+{
     io::write_all(STDOUT_FILENO, b"month");
-    console::word(month as u64);
+    console::word(header::header_field(sheet, header::MONTH) as u64);
     io::write_all(STDOUT_FILENO, b" units");
-    console::word(count as u64);
+    console::word(header::header_field(sheet, header::UNIT_COUNT) as u64);
     io::write_all(STDOUT_FILENO, b" wh");
-    console::word(meter as u64);
+    console::word(header::header_field(sheet, header::SHARED_METER) as u64);
     io::write_all(STDOUT_FILENO, b" cents");
-    console::word(bill as u64);
+    console::word(settlement::bill_cents(sheet));
     console::newline();
 }
 
@@ -42,38 +51,50 @@ fn print_unit(id: u32, numbers: &[u32]) {
 }
 
 fn print_row(sheet: &[u8], i: usize, numbers: &[u32])
-    requires { ⌜ i < 160 ⌝ }
+    requires { ⌜ (i < 160) × (8 * i + 8 ≤ length (now numbers)) ⌝ }
 {
     let at = 8 * i;
     let end = at + 8;
-    if end <= numbers.len() {
-        print_unit(
-            rows::row_field(sheet, 48 + 32 * i, rows::ID),
-            &numbers[at..end],
-        );
+    print_unit(
+        rows::row_field(sheet, 48 + 32 * i, rows::ID),
+        &numbers[at..end],
+    );
+}
+
+fn print_units(sheet: &[u8], numbers: &[u32])
+    requires { ⌜ length (now numbers) ≤ 1280 ⌝ }
+{
+    for i in 0..numbers.len() / 8 {
+        print_row(sheet, i, numbers);
     }
 }
 
-// No month has more than 160 units.
-fn print_units(sheet: &[u8], count: usize, numbers: &[u32]) {
-    for i in 0..160usize {
-        if i < count {
-            print_row(sheet, i, numbers);
+// Past 1 to 7, by way of a list of 8n numbers.
+fn print_in(sheet: &[u8], numbers: &mut [u32])
+    requires { ⌜ (checked 32 (now sheet) ≡ Accepted) × (length (now numbers) ≡ 8 * sheetOf (now sheet) .unitCount) ⌝ }
+{
+    match settlement::settle_checked(sheet, numbers) {
+        Outcome::Refused(f) => print_refusal(f),
+        Outcome::Accepted => {
+            print_head(sheet);
+            print_units(sheet, numbers);
         }
     }
+}
+
+fn print_checked(sheet: &[u8])
+    requires { ⌜ checked 32 (now sheet) ≡ Accepted ⌝ }
+{
+    let n = header::header_field(sheet, header::UNIT_COUNT) as usize;
+    let mut numbers = [0u32; 1280];
+    print_in(sheet, &mut numbers[..8 * n]);
 }
 
 // The lines of a sheet: its month, or the refusal.
 pub fn print_sheet(sheet: &[u8]) {
-    let r = settlement::settle_sheet(sheet);
-    let outcome = r.outcome;
-    let numbers = r.numbers;
-    match outcome {
+    match sheet::check_sheet(sheet) {
         Outcome::Refused(f) => print_refusal(f),
-        Outcome::Accepted => {
-            print_head(r.month, r.count, r.meter, r.bill);
-            print_units(sheet, r.count as usize, &numbers);
-        }
+        Outcome::Accepted => print_checked(sheet),
     }
 }
 

@@ -1,13 +1,15 @@
-use Prim.Native.Nat.{_-_, _≤_}
+use mathlib.Core.Path.{_≡_}
+use Prim.Native.Nat.{_/_, _-_, _≤_}
 use borrow.Author.Needs.{needs}
+use lib.ListN.{length}
 use Rattle.printing.proofs.print_units.Statement.{statement}
 use Rattle.printing.proofs.print_units.Tie as tie
 
 abbrev Inv-loop : tie.InvT-loop
-Inv-loop sheet count numbers i₀ i = i ≤ 160
+Inv-loop sheet numbers i₀ i-end i = (i ≤ i-end) × (i-end ≡ length numbers / 8)
 
 abbrev μ-loop : tie.MeasureT-loop
-μ-loop sheet count numbers i₀ i = 160 - i
+μ-loop sheet numbers i₀ i-end i = i-end - i
 
 loop-holds : tie.Need-loop-holds Inv-loop μ-loop
 loop-holds c = search needs
