@@ -33,9 +33,6 @@ pub with-room : {perUnit : ℕ} {bytes : List ℕ} {n : ℕ} (size : ℕ) → Co
 with-room {n = n} size c h = record { passed = c .passed; room = lent-length size n h ∙ ap (λ (k : ℕ). 8 * k) (c .count) }
 
 -- ---- the writer: 1 to 12, then 13
-pub record-room : (sheet : List ℕ) → checked 32 sheet ≡ Accepted → (length sheet ≡ 48 + 32 * sheetOf sheet .unitCount) × (sheetOf sheet .unitCount ≤ 160)
-record-room sheet e = let f = fits 32 sheet e in (f .byteCount, f .header .unitCount)
-
 module _ (sheet list : List ℕ) where
   pub refused-sheet : (o : Outcome) (q : Refusal) → o ≡ checked 32 sheet → o ≡ Refused q → Writes o sheet list list
   unfolding writeAnswer recordAfter
@@ -53,12 +50,12 @@ module _ (sheet list : List ℕ) where
       -- head, sheet and statement are 56 + 64n bytes
       pub wrong-length : (length list ≡ 8 + length sheet + 4 * length numbers → ⊥) → Writes (Refused BufferLength) sheet list list
       unfolding writeAnswer recordAfter monthOf
-      wrong-length h = rw (is-settled, ne-eqb (length list) (56 + 64 * sheetOf sheet .unitCount) (λ e. h (omega (arith, w .room, record-room sheet (w .passed) .0)))) (refl, refl)
+      wrong-length h = rw (is-settled, ne-eqb (length list) (56 + 64 * sheetOf sheet .unitCount) (λ e. h (omega (arith, w .room, fits 32 sheet (w .passed) .byteCount)))) (refl, refl)
 
       pub written : length list ≡ 8 + length sheet + 4 * length numbers → (after out : List ℕ) → after ≡ statementAfter sheet numbers → out ≡ archiveRecord sheet after → Writes Accepted sheet list out
       unfolding writeAnswer recordAfter monthOf
       written h after out last e =
-          rw (is-settled, eq-eqb (length list) (56 + 64 * sheetOf sheet .unitCount) (omega (arith, w .room, record-room sheet (w .passed) .0)))
+          rw (is-settled, eq-eqb (length list) (56 + 64 * sheetOf sheet .unitCount) (omega (arith, w .room, fits 32 sheet (w .passed) .byteCount)))
           (refl, e ∙ ap (archiveRecord sheet) (last ∙ statement-is sheet numbers (w .passed) (w .room) (sym is ∙ ok)))
 
 -- ---- the reader: 14, 1 to 7, 8 to 12, 14

@@ -2,12 +2,12 @@
 use mathlib.Core.Path.{refl, sym}
 use Prim.Native.Nat.{_+_, _*_}
 use native.Mathlib.Omega.{arith}
+use borrow.Author.Needs.{needs}
 use lib.ListN.{length, length-drop}
 use lib.Seq.{length-take-le}
 use Rattle.sheet.specs.Refusals.{firstRefusal}
 use Rattle.sheet.proofs.Fits.{fits}
 use Rattle.archive.proofs.Answers.{to-end, cut-long, cut-checked, refused-body, by-statement}
-use borrow.Author.Needs.{needs}
 use Rattle.archive.proofs.reader.check_in.Statement.{statement}
 use Rattle.archive.proofs.reader.check_in.Tie as tie
 

@@ -1,8 +1,8 @@
 -- The first 8n places of the array are lent.
 use mathlib.Core.Path.{sym}
 use native.Mathlib.Omega.{arith}
-use Rattle.archive.proofs.Answers.{lent-length, with-room}
 use borrow.Author.Needs.{needs}
+use Rattle.archive.proofs.Answers.{lent-length, with-room}
 use Rattle.archive.proofs.reader.check_up_to_16.Statement.{statement}
 use Rattle.archive.proofs.reader.check_up_to_16.Tie as tie
 

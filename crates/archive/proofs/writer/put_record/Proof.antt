@@ -3,11 +3,11 @@ use mathlib.Core.Path.{sym, ap, _∙_}
 use mathlib.Core.List.{_++_}
 use Prim.Native.Nat.{_+_}
 use native.Mathlib.Omega.{arith}
+use borrow.Author.Needs.{needs}
 use lib.ListN.{length}
 use lib.Seq.{length-take-le}
 use Rattle.archive.specs.Record.{archiveRecord}
 use Rattle.archive.proofs.Bytes.{three-put}
-use borrow.Author.Needs.{needs}
 use Rattle.archive.proofs.writer.put_record.Statement.{statement}
 use Rattle.archive.proofs.writer.put_record.Tie as tie
 

@@ -6,7 +6,8 @@ use native.Mathlib.Omega.{arith}
 use borrow.Author.Needs.{needs}
 use Rattle.sheet.specs.declared.refusal.Outcome.the-variants.{Accepted}
 use Rattle.sheet.specs.Check.{checked}
-use Rattle.archive.proofs.Answers.{refused-sheet, record-room}
+use Rattle.sheet.proofs.Fits.{fits}
+use Rattle.archive.proofs.Answers.{refused-sheet}
 use Rattle.archive.proofs.writer.write.Statement.{statement}
 use Rattle.archive.proofs.writer.write.Tie as tie
 
@@ -33,7 +34,7 @@ returns c =
     refused-sheet (a .sheet .now) (a .out .now) (o .result) _ (o .ensures) (c .enum-told2 .given .1)
 
 header-field-requires : tie.Need-header-field-requires
-header-field-requires c κs = (omega (arith, record-room _ (passed c)), omega arith)
+header-field-requires c κs = (omega (arith, fits 32 _ (passed c) .byteCount), omega arith)
 
 cast-n : tie.Need-cast-n
 cast-n c = search needs
@@ -50,7 +51,7 @@ returns-2 c = search needs
 write-up-to-160-requires : tie.Need-write-up-to-160-requires
 write-up-to-160-requires c κs =
     let n = c .before .before .header-field .ensures in
-    (record { passed = passed (c .before .before .before); count = n }, omega (arith, n, record-room _ (passed (c .before .before .before))))
+    (record { passed = passed (c .before .before .before); count = n }, omega (arith, n, fits 32 _ (passed (c .before .before .before)) .header .unitCount))
 
 same-length-2 : tie.Need-same-length-2
 same-length-2 c = search needs

@@ -1,7 +1,8 @@
 -- 13 after 8 to 12; the list is written only then.
 use native.Mathlib.Omega.{arith}
-use Rattle.archive.proofs.Answers.{refused-month, record-room, wrong-length, written}
 use borrow.Author.Needs.{needs}
+use Rattle.sheet.proofs.Fits.{fits}
+use Rattle.archive.proofs.Answers.{refused-month, wrong-length, written}
 use Rattle.archive.proofs.writer.write_in.Statement.{statement}
 use Rattle.archive.proofs.writer.write_in.Tie as tie
 
@@ -45,8 +46,8 @@ put-record-requires : tie.Need-put-record-requires
 put-record-requires c κs =
     let st = c .before .before .before .before .before .before .before .before .before .before .before .before in
     let o = c .before .before .before .before .before .before .before .settle-checked in
-    let r = record-room (st .args .sheet .now) (st .pre .passed) in
-    ((omega (arith, r), omega (arith, r, st .pre .room, o .kept)), omega (arith, c .before .before .if1 .left, o .kept))
+    let f = fits 32 (st .args .sheet .now) (st .pre .passed) in
+    ((omega (arith, f .byteCount, f .header .unitCount), omega (arith, f .header .unitCount, st .pre .room, o .kept)), omega (arith, c .before .before .if1 .left, o .kept))
 
 same-length-3 : tie.Need-same-length-3
 same-length-3 c = search needs
