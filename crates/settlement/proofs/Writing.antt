@@ -2,11 +2,12 @@
 use mathlib.Core.Path.{_≡_, refl, sym, ap, subst, _∙_}
 use mathlib.Core.Logic.{inl, inr}
 use mathlib.Core.List.{List, [], _∷_}
-use Prim.Native.Nat.{ℕ, zero, suc, _+_, _*_, _-_, _/_, _%_, _<_}
+use Prim.Native.Nat.{ℕ, zero, suc, _+_, _*_, _-_, _/_, _%_, _≤_, _<_}
 use native.Mathlib.Omega.{arith}
+use native.Mathlib.Nat.{add-zero}
 use borrow.Author.Tests.{ltb-true, ltb-false, eqb-true, eqb-false}
 use lib.Dec.{ltb, eqb}
-use lib.ListN.{length, getD, take, drop, set}
+use lib.ListN.{length, getD, take, drop, set, length-set}
 use lib.Seq.{getD-set-same, getD-set-other, ext-getD, getD-take}
 use Rattle.apportion.specs.Shares.{shares}
 use Rattle.sheet.specs.Layout.{Sheet, sheetOf}
@@ -21,15 +22,30 @@ use Rattle.settlement.specs.Inner.Columns.{Put, Written, EnergiesWritten
 pub put-none : (at number : ℕ → ℕ) (list : List ℕ) → Put at 0 number list list
 put-none at number list = record { put = λ k h. absurd (omega arith); kept = λ p no. refl }
 
-pub put-next : (at number : ℕ → ℕ) (m v : ℕ) (before after : List ℕ) → ((k : ℕ) → at k ≡ at m → k ≡ m) → at m < length after → v ≡ number m
-    → Put at m number before after → Put at (m + 1) number before (set after (at m) v)
-put-next at number m v before after apart h e p = record {
-  put = λ k l. elim (decided (eqb k m)) [
-    | inl y ↦ ap (λ (i : ℕ). getD (set after (at m) v) (at i) 0) (eqb-true k m y) ∙ getD-set-same after (at m) v 0 h ∙ e ∙ ap number (sym (eqb-true k m y))
-    | inr y ↦ getD-set-other after (at m) (at k) v 0 (λ z. eqb-false k m y (apart k z)) ∙ p .put k (let d = eqb-false k m y in omega arith)
-  ];
-  kept = λ q no. getD-set-other after (at m) q v 0 (λ z. no m (omega arith) z) ∙ p .kept q (λ k l z. no k (omega arith) z);
-}
+module _ (at number : ℕ → ℕ) (apart : (k l : ℕ) → at k ≡ at l → k ≡ l) (before : List ℕ) where
+  -- number m at place p
+  pub put-next : (after : List ℕ) {m p q v : ℕ} → p ≡ at m → q ≡ m + 1 → p < length after → v ≡ number m → Put at m number before after → Put at q number before (set after p v)
+  put-next after {m} {p} {q} {v} place next h e w = record {
+    put = λ k l. elim (decided (eqb k m)) [
+      | inl y ↦ let f = eqb-true k m y in rw (f, ← place) (getD-set-same after p v 0 h ∙ e)
+      | inr y ↦ let d = eqb-false k m y in getD-set-other after p (at k) v 0 (λ z. d (apart k m (z ∙ place))) ∙ w .put k (omega arith)
+    ];
+    kept = λ x no. getD-set-other after p x v 0 (λ z. no m (omega arith) (z ∙ place)) ∙ w .kept x (λ k l z. no k (omega arith) z);
+  }
+
+  -- four numbers more, at four places in a row
+  pub put-four : (after : List ℕ) (i p : ℕ) {a b c d : ℕ} → ((j : ℕ) → j < 4 → p + j ≡ at (4 * i + j)) → p + 4 ≤ length after
+      → a ≡ number (4 * i) → b ≡ number (4 * i + 1) → c ≡ number (4 * i + 2) → d ≡ number (4 * i + 3)
+      → Put at (4 * i) number before after → Put at (4 * (i + 1)) number before (set (set (set (set after p a) (p + 1) b) (p + 2) c) (p + 3) d)
+  put-four after i p {a} {b} {c} {d} places room ea eb ec ed w =
+      let first : p ≡ at (4 * i) = sym (add-zero p) ∙ places 0 (omega arith) ∙ ap at (add-zero (4 * i)) in
+      let l1 = length-set after p a in
+      let l2 = length-set (set after p a) (p + 1) b in
+      let l3 = length-set (set (set after p a) (p + 1) b) (p + 2) c in
+      put-next _ (places 3 (omega arith)) (omega arith) (omega (arith, l1, l2, l3)) ed
+      (put-next _ (places 2 (omega arith)) (omega arith) (omega (arith, l1, l2)) ec
+      (put-next _ (places 1 (omega arith)) (omega arith) (omega (arith, l1)) eb
+      (put-next after first refl (omega arith) ea w)))
 
 -- ---- the statement's numbers
 -- unit i's four

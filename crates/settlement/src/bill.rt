@@ -23,8 +23,13 @@ fn energy_weights(n: usize, statement: &[u32], weights: &mut [u64])
     requires { ⌜ (n ≤ 160) × (length (now statement) ≡ 8 * n) × (length (now weights) ≡ 4 * n) ⌝ }
     ensures { λ _. ⌜ Put (λ k. k) (4 * n) (λ k. getD (now (statement .entry)) (8 * (k / 4) + k % 4) 0) (now (weights .entry)) (now (weights .exit)) ⌝ }
 {
-    for k in 0..4 * n {
-        weights[k] = wide(statement[8 * (k / 4) + k % 4]);
+    for i in 0..n {
+        let at = 4 * i;
+        let from = 8 * i;
+        weights[at] = wide(statement[from]);
+        weights[at + 1] = wide(statement[from + 1]);
+        weights[at + 2] = wide(statement[from + 2]);
+        weights[at + 3] = wide(statement[from + 3]);
     }
 }
 
@@ -33,8 +38,13 @@ fn put_costs(n: usize, cents: &[u32], statement: &mut [u32])
     requires { ⌜ (n ≤ 160) × (length (now statement) ≡ 8 * n) × (length (now cents) ≡ 4 * n) ⌝ }
     ensures { λ _. ⌜ Put (λ k. 8 * (k / 4) + (4 + k % 4)) (4 * n) (λ k. getD (now (cents .entry)) k 0) (now (statement .entry)) (now (statement .exit)) ⌝ }
 {
-    for k in 0..4 * n {
-        statement[8 * (k / 4) + (4 + k % 4)] = cents[k];
+    for i in 0..n {
+        let at = 8 * i + 4;
+        let from = 4 * i;
+        statement[at] = cents[from];
+        statement[at + 1] = cents[from + 1];
+        statement[at + 2] = cents[from + 2];
+        statement[at + 3] = cents[from + 3];
     }
 }
 

@@ -47,7 +47,7 @@ loop-again c =
     let a = c .before .before .before .args in
     let l = c .before .before .loop in
     let at : ℕ → ℕ = λ k. 8 * k + a .j in
-    (omega arith, (simp length-set (l .inv .1 .0), put-next at (λ k. getD (a .numbers .now) k 0) (l .i) _ _ (l .statement) (λ k e. omega arith) (omega arith) refl (l .inv .1 .1)))
+    (omega arith, (simp length-set (l .inv .1 .0), put-next at (λ k. getD (a .numbers .now) k 0) (λ k m e. omega arith) _ (l .statement) refl refl (omega arith) refl (l .inv .1 .1)))
 
 same-length : tie.Need-same-length Inv-loop μ-loop
 same-length c = search needs
