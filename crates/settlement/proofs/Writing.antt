@@ -1,4 +1,4 @@
--- Lists written number by number, and the statement by its columns. Assumes nothing.
+-- Lists written number by number, and the statement unit by unit. Assumes nothing.
 use mathlib.Core.Path.{_≡_, refl, sym, ap, subst, _∙_}
 use mathlib.Core.Logic.{inl, inr}
 use mathlib.Core.List.{List, [], _∷_}
@@ -16,7 +16,7 @@ use Rattle.month.specs.Month.{billCents, costs, statementOf}
 use Rattle.month.specs.Inner.Accepted.{AcceptedSheet}
 use Rattle.month.proofs.Lists.{decided, getD-tail, rows-length, row-energy, row-cost}
 use Rattle.month.proofs.Sums.{energies-length, costs-fair}
-use Rattle.settlement.specs.Inner.Columns.{Put, Written, EnergiesWritten}
+use Rattle.settlement.specs.Inner.Numbers.{Put, energyPlace, costPlace, EnergiesWritten}
 
 -- ---- one number more
 pub put-none : (at number : ℕ → ℕ) (list : List ℕ) → Put at 0 number list list
@@ -47,9 +47,9 @@ module _ (at number : ℕ → ℕ) (apart : (k l : ℕ) → at k ≡ at l → k 
       (put-next _ (places 1 (omega arith)) (omega arith) (omega (arith, l1)) eb
       (put-next after first refl (omega arith) ea w)))
 
--- ---- the statement's numbers
+-- ---- four lists unit by unit
 -- unit i's four
-by-unit-at : (n i j : ℕ) (a b c d : List ℕ) → i < n → j < 4 → getD (unitByUnit wholeWh n a b c d) (4 * i + j) 0 ≡ getD (getD a i 0 ∷ getD b i 0 ∷ getD c i 0 ∷ getD d i 0 ∷ []) j 0
+pub by-unit-at : (n i j : ℕ) (a b c d : List ℕ) → i < n → j < 4 → getD (unitByUnit wholeWh n a b c d) (4 * i + j) 0 ≡ getD (getD a i 0 ∷ getD b i 0 ∷ getD c i 0 ∷ getD d i 0 ∷ []) j 0
 unfolding unitByUnit
 by-unit-at zero i j a b c d h l = absurd (omega arith)
 by-unit-at (suc n) zero zero a b c d h l = refl
@@ -61,94 +61,74 @@ by-unit-at (suc n) (suc i) j a b c d h l =
     let e : 4 * suc i + j ≡ suc (suc (suc (suc (4 * i + j)))) = omega arith in
     rw (e, ← getD-tail a i 0, ← getD-tail b i 0, ← getD-tail c i 0, ← getD-tail d i 0) (by-unit-at n i j (drop 1 a) (drop 1 b) (drop 1 c) (drop 1 d) (omega arith) l)
 
-module _ (s : Sheet) (a : AcceptedSheet s) where
-  abbrev n : ℕ
-  n = length (s .units)
+tail-take : (n : ℕ) (xs : List ℕ) → drop 1 (take (suc n) xs) ≡ take n (drop 1 xs)
+tail-take zero [] = refl
+tail-take (suc n) [] = refl
+tail-take n (x ∷ xs) = refl
 
-  costs-length : length (costs s) ≡ 4 * n
-  costs-length = costs-fair s a .as-many ∙ energies-length s a
+-- only the first n of each count
+by-unit-take : (n : ℕ) (a b c d : List ℕ) → unitByUnit wholeWh n a b c d ≡ unitByUnit wholeWh n (take n a) (take n b) (take n c) (take n d)
+unfolding unitByUnit
+by-unit-take zero a b c d = refl
+by-unit-take (suc n) a b c d =
+    let first : (xs : List ℕ) → getD (take (suc n) xs) 0 0 ≡ getD xs 0 0 = λ xs. getD-take (suc n) xs 0 0 (omega arith) in
+    rw (first a, first b, first c, first d, tail-take n a, tail-take n b, tail-take n c, tail-take n d)
+    (ap (λ (r : List ℕ). getD a 0 0 ∷ getD b 0 0 ∷ getD c 0 0 ∷ getD d 0 0 ∷ r) (by-unit-take n (drop 1 a) (drop 1 b) (drop 1 c) (drop 1 d)))
 
-  statement-length : length (statementOf s) ≡ 8 * n
-  unfolding statementOf
-  statement-length = rows-length n (energies wholeWh s) (costs s) (energies-length s a) costs-length
+pub energies-by-unit : (s : Sheet) {n : ℕ} (a b c d : List ℕ) → n ≡ length (s .units)
+    → take n a ≡ heat wholeWh s → take n b ≡ commonHeat wholeWh s → take n c ≡ water wholeWh s → take n d ≡ commonWater wholeWh s
+    → unitByUnit wholeWh n a b c d ≡ energies wholeWh s
+unfolding energies
+energies-by-unit s {n} a b c d count ea eb ec ed = by-unit-take n a b c d ∙ rw (ea, eb, ec, ed, count)
 
-  energy-at : (i j : ℕ) → i < n → j < 4 → getD (statementOf s) (8 * i + j) 0 ≡ getD (energies wholeWh s) (4 * i + j) 0
-  unfolding statementOf
-  energy-at i j h l = row-energy n (energies wholeWh s) (costs s) i j (energies-length s a) costs-length h l
-
-  cost-at : (i j : ℕ) → i < n → j < 4 → getD (statementOf s) (8 * i + (4 + j)) 0 ≡ getD (costs s) (4 * i + j) 0
-  unfolding statementOf
-  cost-at i j h l = row-cost n (energies wholeWh s) (costs s) i j (energies-length s a) costs-length h l
-
-  -- number j, 0 to 3, of unit i
-  of-unit : (i j : ℕ) → i < n → j < 4
-      → getD (statementOf s) (8 * i + j) 0 ≡ getD (getD (heat wholeWh s) i 0 ∷ getD (commonHeat wholeWh s) i 0 ∷ getD (water wholeWh s) i 0 ∷ getD (commonWater wholeWh s) i 0 ∷ []) j 0
-  unfolding energies
-  of-unit i j h l = energy-at i j h l ∙ by-unit-at n i j (heat wholeWh s) (commonHeat wholeWh s) (water wholeWh s) (commonWater wholeWh s) h l
-
-  -- ---- one column more
-  module _ {m : ℕ} (count : m ≡ s .unitCount) (xs before after : List ℕ) where
-    one-more : (j : ℕ) → j < 8 → ((i : ℕ) → i < m → getD xs i 0 ≡ getD (statementOf s) (8 * i + j) 0)
-        → Put (λ i. 8 * i + j) m (λ i. getD xs i 0) before after → Written j s before → Written (suc j) s after
-    one-more j h e p w = λ i k g l. elim (decided (eqb k j)) [
-      | inl y ↦ ap (λ (x : ℕ). getD after (8 * i + x) 0) (eqb-true k j y) ∙ p .put i (omega arith) ∙ e i (omega arith) ∙ ap (λ (x : ℕ). getD (statementOf s) (8 * i + x) 0) (sym (eqb-true k j y))
-      | inr y ↦ p .kept (8 * i + k) (λ x g z. eqb-false k j y (omega arith)) ∙ w i k g (let d = eqb-false k j y in omega arith)
-    ]
-
-    column : (ys : List ℕ) → take m xs ≡ ys → (i : ℕ) → i < m → getD xs i 0 ≡ getD ys i 0
-    column ys e i h = sym (getD-take m xs i 0 h) ∙ ap (λ (l : List ℕ). getD l i 0) e
-
-    units : (i : ℕ) → i < m → i < n
-    units i h = omega (arith, a .checked-sheet .unit-count)
-
-    pub heat-written : take m xs ≡ heat wholeWh s → Put (λ i. 8 * i + 0) m (λ i. getD xs i 0) before after → Written 1 s after
-    heat-written e p = one-more 0 (omega arith) (λ i h. column _ e i h ∙ sym (of-unit i 0 (units i h) (omega arith))) p (λ i j g l. absurd (omega arith))
-
-    pub common-heat-written : take m xs ≡ commonHeat wholeWh s → Put (λ i. 8 * i + 1) m (λ i. getD xs i 0) before after → Written 1 s before → Written 2 s after
-    common-heat-written e = one-more 1 (omega arith) (λ i h. column _ e i h ∙ sym (of-unit i 1 (units i h) (omega arith)))
-
-    pub water-written : take m xs ≡ water wholeWh s → Put (λ i. 8 * i + 2) m (λ i. getD xs i 0) before after → Written 2 s before → Written 3 s after
-    water-written e = one-more 2 (omega arith) (λ i h. column _ e i h ∙ sym (of-unit i 2 (units i h) (omega arith)))
-
-    pub common-water-written : take m xs ≡ commonWater wholeWh s → Put (λ i. 8 * i + 3) m (λ i. getD xs i 0) before after → Written 3 s before → Written 4 s after
-    common-water-written e = one-more 3 (omega arith) (λ i h. column _ e i h ∙ sym (of-unit i 3 (units i h) (omega arith)))
-
--- ---- step 7
+-- ---- a statement with its energies
 module _ {bytes : List ℕ} {n : ℕ} {out : List ℕ} (w : EnergiesWritten bytes n out) where
-  abbrev sheet : Sheet
-  sheet = sheetOf bytes
+  abbrev s : Sheet
+  s = sheetOf bytes
 
-  many : n ≡ length (sheet .units)
+  many : n ≡ length (s .units)
   many = w .count ∙ sym (w .accepted .checked-sheet .unit-count)
 
-  pub energies-are : (before ws : List ℕ) → length ws ≡ 4 * n → Put (λ k. k) (4 * n) (λ k. getD out (8 * (k / 4) + k % 4) 0) before ws → ws ≡ energies wholeWh sheet
-  energies-are before ws l p =
-      ext-getD 0 ws (energies wholeWh sheet) (omega (arith, energies-length sheet (w .accepted), many)) (λ k h.
-      let e : 4 * (k / 4) + k % 4 ≡ k = omega arith in
-      p .put k (omega arith) ∙ w .energies (k / 4) (k % 4) (omega (arith, w .count)) (omega arith) ∙ energy-at sheet (w .accepted) (k / 4) (k % 4) (omega (arith, many)) (omega arith)
-      ∙ ap (λ (i : ℕ). getD (energies wholeWh sheet) i 0) e)
+  energy-count : length (energies wholeWh s) ≡ 4 * length (s .units)
+  energy-count = energies-length s (w .accepted)
 
-  pub costs-are : {ws cents : List ℕ} {b : ℕ} → ws ≡ energies wholeWh sheet → b ≡ billCents sheet → cents ≡ shares b ws → cents ≡ costs sheet
+  cost-count : length (costs s) ≡ 4 * length (s .units)
+  cost-count = costs-fair s (w .accepted) .as-many ∙ energy-count
+
+  pub energies-are : (before ws : List ℕ) → length ws ≡ 4 * n → Put (λ k. k) (4 * n) (λ k. getD out (energyPlace k) 0) before ws → ws ≡ energies wholeWh s
+  energies-are before ws l p = ext-getD 0 ws (energies wholeWh s) (omega (arith, energy-count, many)) (λ k h. p .put k (omega arith) ∙ w .energy k (omega arith))
+
+  pub costs-are : {ws cents : List ℕ} {b : ℕ} → ws ≡ energies wholeWh s → b ≡ billCents s → cents ≡ shares b ws → cents ≡ costs s
   unfolding costs
   costs-are e f g = g ∙ rw (e, f)
 
-  module _ (cents after : List ℕ) (c : cents ≡ costs sheet) (l : length after ≡ 8 * n) (p : Put (λ k. 8 * (k / 4) + (4 + k % 4)) (4 * n) (λ k. getD cents k 0) out after) where
-    cost : (i j : ℕ) → i < n → j < 4 → getD after (8 * i + (4 + j)) 0 ≡ getD (statementOf sheet) (8 * i + (4 + j)) 0
-    cost i j h g =
-        let k = 4 * i + j in
-        let e : 8 * (k / 4) + (4 + k % 4) ≡ 8 * i + (4 + j) = omega arith in
-        ap (λ (x : ℕ). getD after x 0) (sym e) ∙ p .put k (omega arith) ∙ ap (λ (xs : List ℕ). getD xs k 0) c ∙ sym (cost-at sheet (w .accepted) i j (omega (arith, many)) g)
-
-    number : (i j : ℕ) → i < n → j < 8 → getD after (8 * i + j) 0 ≡ getD (statementOf sheet) (8 * i + j) 0
-    number i j h g = elim (decided (ltb j 4)) [
-      | inl y ↦ let f = ltb-true j 4 y in p .kept (8 * i + j) (λ k x z. omega arith) ∙ w .energies i j (omega (arith, w .count)) f
-      | inr y ↦
-          let f = ltb-false j 4 y in
-          let e : 4 + (j - 4) ≡ j = omega arith in
-          subst (λ (x : ℕ). getD after (8 * i + x) 0 ≡ getD (statementOf sheet) (8 * i + x) 0) e (cost i (j - 4) h (omega arith))
-    ]
-
-    pub statement-is : after ≡ statementOf sheet
-    statement-is = ext-getD 0 after (statementOf sheet) (omega (arith, statement-length sheet (w .accepted), many)) (λ k h.
-        let e : 8 * (k / 8) + k % 8 ≡ k = omega arith in
-        subst (λ (x : ℕ). getD after x 0 ≡ getD (statementOf sheet) x 0) e (number (k / 8) (k % 8) (omega arith) (omega arith)))
+  -- and its cents: place p holds number p % 8 of unit p / 8
+  module _ (cents after : List ℕ) (c : cents ≡ costs s) (l : length after ≡ 8 * n) (put : Put costPlace (4 * n) (λ k. getD cents k 0) out after) where
+    pub statement-is : after ≡ statementOf s
+    unfolding statementOf
+    statement-is = ext-getD 0 after (statementOf s) (omega (arith, rows-length (length (s .units)) (energies wholeWh s) (costs s) energy-count cost-count, many)) (λ p h.
+        let i = p / 8 in
+        let j = p % 8 in
+        let inside : i < length (s .units) = omega (arith, many) in
+        elim (decided (ltb j 4)) [
+          | inl y ↦
+              let few = ltb-true j 4 y in
+              let k = 4 * i + j in
+              let at : energyPlace k ≡ p = omega arith in
+              let row : 8 * i + j ≡ p = omega arith in
+              put .kept p (λ x less z. omega arith)
+              ∙ ap (λ (x : ℕ). getD out x 0) (sym at)
+              ∙ w .energy k (omega (arith, many))
+              ∙ sym (row-energy (length (s .units)) (energies wholeWh s) (costs s) i j energy-count cost-count inside few)
+              ∙ ap (λ (x : ℕ). getD (statementOf s) x 0) row
+          | inr y ↦
+              let many-more = ltb-false j 4 y in
+              let k = 4 * i + (j - 4) in
+              let at : costPlace k ≡ p = omega arith in
+              let row : 8 * i + (4 + (j - 4)) ≡ p = omega arith in
+              ap (λ (x : ℕ). getD after x 0) (sym at)
+              ∙ put .put k (omega (arith, many))
+              ∙ ap (λ (xs : List ℕ). getD xs k 0) c
+              ∙ sym (row-cost (length (s .units)) (energies wholeWh s) (costs s) i (j - 4) energy-count cost-count inside (omega arith))
+              ∙ ap (λ (x : ℕ). getD (statementOf s) x 0) row
+        ])

@@ -1,4 +1,4 @@
 -- What inner functions promise each other. Nothing in here need be believed.
-pub mod Columns
+pub mod Numbers
 pub mod Division
 pub mod Heat

@@ -1,18 +1,16 @@
 // Steps 2 to 5: units' heat and common heat.
 ghost use mathlib.Core.Path.{_≡_};
-ghost use mathlib.Core.Bool.{true, false};
-ghost use Prim.Native.Nat.{_+_, _*_, _<_};
+ghost use mathlib.Core.Bool.{true};
+ghost use Prim.Native.Nat.{_+_, _<_};
 ghost use lib.ListN.{length, take};
 ghost use Rattle.sheet.specs.Tests.{if_then_else_};
 ghost use Rattle.sheet.specs.Layout.{sheetOf};
 ghost use Rattle.sheet.specs.Inner.Fits.{Fits};
 ghost use Rattle.month.specs.Weights.{unreadUnits, allMetered};
-ghost use Rattle.month.specs.Steps.{wholeWh, heatParts, poolShares, inUnitOrder, heat};
+ghost use Rattle.month.specs.Steps.{wholeWh, heatParts, poolShares, inUnitOrder, heat, commonHeat};
 ghost use Rattle.month.specs.Month.{hotWaterWh};
 ghost use Rattle.weights.specs.Inner.Ready.{Accepts};
 ghost use Rattle.settlement.specs.Inner.Heat.{UnitsHeat, ByReadings};
-ghost use Rattle.settlement.specs.Inner.Columns.{Written};
-use crate::columns::put_column;
 use crate::divide::Parts;
 use crate::divide::divide_by;
 use crate::divide::share;
@@ -119,16 +117,19 @@ fn unit_heat(s: &[u8], n: usize, t: Totals, total: u64, out: &mut [u32])
     heat_by_readings(s, n, t, total, out);
 }
 
-// Steps 2 to 5.
-pub(crate) fn write_heat(s: &[u8], n: usize, t: Totals, h: u64, statement: &mut [u32])
-    requires { ⌜ Accepts (now s) n t × (h ≡ hotWaterWh (sheetOf (now s))) × (length (now statement) ≡ 8 * n) ⌝ }
-    ensures { λ r. ⌜ Written 2 (sheetOf (now (s .entry))) (now (statement .exit)) ⌝ }
+// Steps 2 to 5: each unit's heat, and its part of the common heat.
+pub(crate) fn heat_shares(
+    s: &[u8],
+    n: usize,
+    t: Totals,
+    h: u64,
+    units: &mut [u32],
+    common: &mut [u32],
+)
+    requires { ⌜ Accepts (now s) n t × (h ≡ hotWaterWh (sheetOf (now s))) × (length (now units) ≡ 160) × (length (now common) ≡ 160) ⌝ }
+    ensures { λ r. ⌜ (take n (now (units .exit)) ≡ heat wholeWh (sheetOf (now (s .entry)))) × (take n (now (common .exit)) ≡ commonHeat wholeWh (sheetOf (now (s .entry)))) ⌝ }
 {
-    let mut units = [0u32; 160];
-    let mut common = [0u32; 160];
     let parts = heat_parts(s, n, t, h);
-    unit_heat(s, n, t, parts.units, &mut units);
-    divide_by(s, n, By::Area, t, parts.common, &mut common);
-    put_column(0, n, &units, statement);
-    put_column(1, n, &common, statement);
+    unit_heat(s, n, t, parts.units, units);
+    divide_by(s, n, By::Area, t, parts.common, common);
 }

@@ -1,8 +1,8 @@
 // One building month settled (document 01, "Steps of a month"): the divisions, the bill and the statement that crate `month` defines.
 mod bill;
-mod columns;
 mod divide;
 mod heat;
+mod layout;
 mod settling;
 mod water;
 

@@ -9,8 +9,9 @@ ghost use Rattle.month.specs.Month.{hotWaterWh, statementOf};
 ghost use Rattle.weights.specs.Inner.Ready.{Accepts};
 ghost use Rattle.settlement.specs.Settle.{settleAnswer, statementAfter};
 use crate::bill;
-use crate::heat;
-use crate::water;
+use crate::heat::heat_shares;
+use crate::layout::put_energies;
+use crate::water::water_shares;
 use sheet::Outcome;
 use sheet::Refusal;
 use sheet::header;
@@ -24,8 +25,20 @@ fn write_statement(s: &[u8], n: usize, t: Totals, h: u64, statement: &mut [u32])
     requires { ⌜ Accepts (now s) n t × (h ≡ hotWaterWh (sheetOf (now s))) × (length (now statement) ≡ 8 * n) ⌝ }
     ensures { λ r. ⌜ now (statement .exit) ≡ statementOf (sheetOf (now (s .entry))) ⌝ }
 {
-    heat::write_heat(s, n, t, h, statement);
-    water::write_water(s, n, t, h, statement);
+    let mut units_heat = [0u32; 160];
+    let mut common_heat = [0u32; 160];
+    let mut units_water = [0u32; 160];
+    let mut common_water = [0u32; 160];
+    heat_shares(s, n, t, h, &mut units_heat, &mut common_heat);
+    water_shares(s, n, t, h, &mut units_water, &mut common_water);
+    put_energies(
+        n,
+        &units_heat,
+        &common_heat,
+        &units_water,
+        &common_water,
+        statement,
+    );
     bill::write_costs(s, n, statement);
 }
 

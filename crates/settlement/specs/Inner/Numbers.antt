@@ -1,11 +1,11 @@
--- A list as far as it is written: number by number, and the statement column by column.
+-- A list as far as it is written, number by number, and a statement with its energies.
 use mathlib.Core.Path.{_≡_}
 use mathlib.Core.List.{List}
-use Prim.Native.Nat.{ℕ, _+_, _*_, _<_}
+use Prim.Native.Nat.{ℕ, _+_, _*_, _/_, _%_, _<_}
 use lib.ListN.{length, getD}
-use Rattle.sheet.specs.Layout.{Sheet, sheetOf}
+use Rattle.sheet.specs.Layout.{sheetOf}
 use Rattle.sheet.specs.Inner.Fits.{Fits}
-use Rattle.month.specs.Month.{statementOf}
+use Rattle.month.specs.Steps.{wholeWh, energies}
 use Rattle.month.specs.Inner.Accepted.{AcceptedSheet}
 
 -- Numbers 0 to m − 1 are written, number k to place `at k`, and every other place is as before.
@@ -13,9 +13,12 @@ pub record Put (at : ℕ → ℕ) (m : ℕ) (number : ℕ → ℕ) (before after
   pub put : (k : ℕ) → k < m → getD after (at k) 0 ≡ number k
   pub kept : (p : ℕ) → ((k : ℕ) → k < m → p ≡ at k → ⊥) → getD after p 0 ≡ getD before p 0
 
--- Of each unit's eight numbers the first k are the month's.
-abbrev pub Written : ℕ → Sheet → List ℕ → Type 0
-Written k s out = (i j : ℕ) → i < s .unitCount → j < k → getD out (8 * i + j) 0 ≡ getD (statementOf s) (8 * i + j) 0
+-- where energy k of the 4n stands in the statement, and its cents
+abbrev pub energyPlace : ℕ → ℕ
+energyPlace k = 8 * (k / 4) + k % 4
+
+abbrev pub costPlace : ℕ → ℕ
+costPlace k = 8 * (k / 4) + (4 + k % 4)
 
 -- a sheet of n units that is not refused, and a statement with its energies
 pub record EnergiesWritten (bytes : List ℕ) (n : ℕ) (out : List ℕ) : Type 0 where
@@ -23,4 +26,4 @@ pub record EnergiesWritten (bytes : List ℕ) (n : ℕ) (out : List ℕ) : Type 
   pub accepted : AcceptedSheet (sheetOf bytes)
   pub count : n ≡ sheetOf bytes .unitCount
   pub room : length out ≡ 8 * n
-  pub energies : Written 4 (sheetOf bytes) out
+  pub energy : (k : ℕ) → k < 4 * n → getD out (energyPlace k) 0 ≡ getD (energies wholeWh (sheetOf bytes)) k 0

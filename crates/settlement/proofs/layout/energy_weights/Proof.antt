@@ -4,10 +4,10 @@ use Prim.Native.Nat.{ℕ, _+_, _*_, _-_, _/_, _%_, _≤_}
 use native.Mathlib.Omega.{arith}
 use borrow.Author.Needs.{needs}
 use lib.ListN.{length, getD, length-set}
-use Rattle.settlement.specs.Inner.Columns.{Put}
+use Rattle.settlement.specs.Inner.Numbers.{Put}
 use Rattle.settlement.proofs.Writing.{put-none, put-four}
-use Rattle.settlement.proofs.bill.energy_weights.Statement.{statement}
-use Rattle.settlement.proofs.bill.energy_weights.Tie as tie
+use Rattle.settlement.proofs.layout.energy_weights.Statement.{statement}
+use Rattle.settlement.proofs.layout.energy_weights.Tie as tie
 
 abbrev Inv-loop : tie.InvT-loop
 Inv-loop n statement weights₀ i₀ weights i = (i ≤ n) × ((length weights ≡ 4 * n) × Put (λ k. k) (4 * i) (λ k. getD statement (8 * (k / 4) + k % 4) 0) weights₀ weights)
