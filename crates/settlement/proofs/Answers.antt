@@ -13,7 +13,7 @@ use Rattle.sheet.specs.declared.refusal.Outcome.the-variants.{Accepted, Refused
 use Rattle.sheet.specs.Refusals.{Rule, _⇒_, firstRefusal}
 use Rattle.sheet.specs.Layout.{sheetOf}
 use Rattle.sheet.specs.Check.{sheetRules, checked}
-use Rattle.month.specs.Month.{Month, settled, statementOf, monthOf, monthRules, settleRules, settledSheet, unlessRefused}
+use Rattle.month.specs.Month.{settled, statementOf, monthOf, monthRules, settleRules, settledSheet, unlessRefused}
 use Rattle.settlement.specs.Settle.{answerOf, settleAnswer, statementAfter}
 
 -- ---- 1 to 12

@@ -1,5 +1,5 @@
 -- Lists written number by number, and the statement unit by unit. Assumes nothing.
-use mathlib.Core.Path.{_≡_, refl, sym, ap, subst, _∙_}
+use mathlib.Core.Path.{_≡_, refl, sym, ap, _∙_}
 use mathlib.Core.Logic.{inl, inr}
 use mathlib.Core.List.{List, [], _∷_}
 use Prim.Native.Nat.{ℕ, zero, suc, _+_, _*_, _-_, _/_, _%_, _≤_, _<_}
@@ -13,7 +13,6 @@ use Rattle.apportion.specs.Shares.{shares}
 use Rattle.sheet.specs.Layout.{Sheet, sheetOf}
 use Rattle.month.specs.Steps.{wholeWh, unitByUnit, heat, commonHeat, water, commonWater, energies}
 use Rattle.month.specs.Month.{billCents, costs, statementOf}
-use Rattle.month.specs.Inner.Accepted.{AcceptedSheet}
 use Rattle.month.proofs.Lists.{decided, getD-tail, rows-length, row-energy, row-cost}
 use Rattle.month.proofs.Sums.{energies-length, costs-fair}
 use Rattle.settlement.specs.Inner.Numbers.{Put, energyPlace, costPlace, EnergiesWritten}

@@ -11,15 +11,17 @@ use lib.ListN.{length, take, set}
 use lib.Seq.{take-set-le, take-suc-set}
 use Rattle.apportion.specs.Shares.{bit}
 use lib.Dec.{eqb}
+use borrow.Author.Tests.{eqb-false}
 use Rattle.sheet.specs.Tests.{if_then_else_}
 use Rattle.sheet.specs.Layout.{UnitRow, Sheet, unitRow, sheetOf}
 use Rattle.sheet.specs.Inner.Fields.{unitOf}
 use Rattle.sheet.specs.Inner.Fits.{UnitFits}
 use Rattle.sheet.proofs.Fits.{each-at}
 use Rattle.sheet.proofs.Units.{units-next}
-use Rattle.month.specs.Weights.{those, commonWaterWeight}
+use Rattle.month.specs.Weights.{those, isRead, commonWaterWeight}
 use Rattle.month.proofs.Lists.{decided}
 use Rattle.weights.specs.Inner.Ready.{RowReady}
+use Rattle.weights.specs.Inner.Totals.{onlyIf}
 
 -- ---- a row's fields are in range
 pub unit-fits : {bytes : List ℕ} {i : ℕ} → RowReady bytes i → UnitFits (sheetOf bytes) (unitOf (sheetOf bytes) i)
@@ -72,3 +74,14 @@ persons-counted {s} {u} h = go (u .waterClass) (u .persons) (h .waterClass) (h .
     go (suc zero) p l z = refl
     go (suc (suc zero)) p l z = refl
     go (suc (suc (suc c))) p l z = absurd (omega arith)
+
+-- ---- a unit of another class than 1 has no litres, one that isn't read no reading
+only-where : (t : Bool) {x : ℕ} → (t ≡ false → x ≡ 0) → x ≡ onlyIf t x
+only-where true h = refl
+only-where false h = h refl
+
+pub litres-counted : {s : Sheet} {u : UnitRow} → UnitFits s u → u .litres ≡ onlyIf (eqb (u .waterClass) 1) (u .litres)
+litres-counted {u = u} h = only-where (eqb (u .waterClass) 1) (λ e. h .noLitres (eqb-false (u .waterClass) 1 e))
+
+pub reading-counted : {s : Sheet} {u : UnitRow} → UnitFits s u → u .reading ≡ onlyIf (isRead u) (u .reading)
+reading-counted {u = u} h = only-where (isRead u) (λ e. let some = eqb-false (u .status) 0 e in h .noReading (omega arith))

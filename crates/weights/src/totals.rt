@@ -47,7 +47,7 @@ pub fn only_if(b: bool, x: u64) -> u64
     if b { x } else { 0 }
 }
 
-// What unit i adds.
+// What unit i adds. A unit of another class than 1 has no litres, and one that isn't read no reading.
 fn of_row(s: &[u8], i: usize) -> Totals
     requires { ⌜ RowReady (now s) i ⌝ }
     ensures { λ r. ⌜ (r ≡ ofUnit (sheetOf (now (s .entry))) (unitOf (sheetOf (now (s .entry))) i)) × Within 1 r ⌝ }
@@ -60,14 +60,14 @@ fn of_row(s: &[u8], i: usize) -> Totals
         load: field(s, i, rows::HEAT_LOAD),
         class1: only_if(class == 1, 1),
         class2: only_if(class == 2, 1),
-        litres: only_if(class == 1, field(s, i, rows::LITRES)),
+        litres: field(s, i, rows::LITRES),
         persons2: only_if(class == 2, field(s, i, rows::PERSONS)),
         persons: common_water_weight(s, i),
         unread: only_if(status != 0, unread_weight(s, i)),
         read: only_if(status == 0, 1),
         readarea: only_if(status == 0, p),
         surface: only_if(status == 0, field(s, i, rows::RISER_SURFACE)),
-        readings: only_if(status == 0, field(s, i, rows::READING)),
+        readings: field(s, i, rows::READING),
     }
 }
 

@@ -7,7 +7,6 @@ use lib.ListN.{length, take, length-set}
 use lib.Seq.{take-all}
 use Rattle.sheet.specs.Layout.{sheetOf}
 use Rattle.sheet.specs.Inner.Fields.{unitOf}
-use Rattle.weights.specs.declared.gather.By.{By}
 use Rattle.weights.specs.Inner.By.{takesPart, weightOf, weightsBy}
 use Rattle.weights.proofs.Rows.{bit-le, chosen, turn-row}
 use Rattle.weights.proofs.gather.gather.Statement.{statement}
