@@ -5,16 +5,15 @@ use mathlib.Core.List.{List, [], _∷_, map}
 use Prim.Native.Nat.{ℕ, _^_, _≤_, _<_}
 use native.Mathlib.Omega.{arith}
 use borrow.Author.Tests.{eq-eqb, ne-eqb}
-use lib.ListN.{length, take, length-map}
-use lib.Seq.{length-take-le}
-use Rattle.apportion.specs.Shares.{sum, shares}
-use Rattle.apportion.proofs.Laws.{shares-fair}
+use lib.ListN.{length, take, length-map, replicate}
+use Rattle.apportion.specs.Shares.{sum, remainder, shares}
+use Rattle.apportion.proofs.Laws.{shares-none}
 use Rattle.sheet.specs.Layout.{UnitRow, Sheet, sheetOf}
 use Rattle.month.specs.Weights.{those, allMetered, totalArea, unreadWeights, readWeights}
 use Rattle.month.specs.Steps.{wholeWh, heat, commonHeat, waterParts, water, commonWater}
 use Rattle.month.specs.Inner.Accepted.{CheckedSheet}
 use Rattle.month.proofs.Accepted.{load-positive, area-positive}
-use Rattle.month.proofs.Bounds.{sum-bounds, weight-bounds}
+use Rattle.month.proofs.Bounds.{those-fewer, sum-bounds, weight-bounds}
 use Rattle.month.proofs.Divisions.{units-heat, common-heat, water-divisible, common-water-divisible}
 use Rattle.month.proofs.DivisionBounds.{units-heat-le, common-heat-le, units-water-le, common-water-le}
 use Rattle.weights.specs.Inner.By.{takesPart, weightOf, weightsBy}
@@ -22,15 +21,12 @@ use Rattle.weights.specs.Inner.Ready.{Accepts}
 use Rattle.weights.specs.declared.gather.By.{By}
 use Rattle.weights.specs.declared.gather.By.the-variants.{Load, Area, Unread, Read, Water, Persons}
 use Rattle.weights.specs.declared.totals.Totals.{Totals}
-use Rattle.settlement.specs.Inner.Division.{Divides}
+use Rattle.settlement.specs.Inner.Division.{Divides, Shared}
+use Rattle.settlement.proofs.Parts.{front-untouched}
 
 pub those-all : (us : List UnitRow) → those (λ u. true) us ≡ us
 those-all [] = refl
 those-all (u ∷ us) = ap (λ (r : List UnitRow). u ∷ r) (those-all us)
-
--- as many shares as units
-pub counted : (f : UnitRow → ℕ) (us : List UnitRow) (out : List ℕ) {total r : ℕ} → (sum (map f us) ≡ 0 → total ≡ 0) → r ≤ length out → take r out ≡ shares total (map f us) → r ≡ length us
-counted f us out {total} {r} d h e = sym (length-take-le r out h) ∙ ap length e ∙ shares-fair total (map f us) d .as-many ∙ length-map us f
 
 -- every unit takes part
 abbrev All : By → Type 0
@@ -76,32 +72,37 @@ module _ {bytes : List ℕ} {n : ℕ} {t : Totals} (a : Accepts bytes n t) where
   pub persons-water : Divides (waterParts wholeWh s .common) (weightsBy Persons s)
   persons-water = divides Persons refl (waterParts wholeWh s .common) (common-water-le s (a .accepted)) (common-water-divisible s (a .accepted))
 
+  -- ---- nothing divided
+  pub none-shared : (by : By) {total : ℕ} {out : List ℕ} → total ≡ 0 → out ≡ replicate 160 0 → Shared total (weightsBy by s) out
+  unfolding weightsBy
+  none-shared by z e =
+      let us = those (takesPart by) (s .units) in
+      let few : length (map (weightOf by s) us) ≤ 160 = omega (arith, length-map us (weightOf by s), those-fewer (takesPart by) (s .units), a .accepted .checked-sheet .unit-count, a .accepted .checked-sheet .header .unitCount) in
+      rw (z, e) (front-untouched _ 160 0 few ∙ sym (shares-none remainder (map (weightOf by s) us)))
+
   -- ---- what each gives: a number for each unit
-  module _ {total r : ℕ} (out : List ℕ) (room : length out ≡ 160) where
-    over-units : (by : By) → All by → {whole : ℕ} → Divides whole (weightsBy by s) → total ≡ whole
-        → (r ≤ n) × (take r out ≡ shares total (weightsBy by s)) → take n out ≡ shares whole (map (weightOf by s) (s .units))
-    over-units by all {whole} d e g =
-        let f : take r out ≡ shares whole (map (weightOf by s) (s .units)) = g .1 ∙ rw (e, of-all s by all) in
-        let c : r ≡ length (s .units) = counted (weightOf by s) (s .units) out (rw (of-all s by all) at (d .1)) (omega arith) f in
-        let k : r ≡ n = omega arith in
-        subst (λ (j : ℕ). take j out ≡ shares whole (map (weightOf by s) (s .units))) k f
+  module _ {total : ℕ} (out : List ℕ) where
+    over-units : (by : By) → All by → {whole : ℕ} → total ≡ whole → Shared total (weightsBy by s) out → take n out ≡ shares whole (map (weightOf by s) (s .units))
+    over-units by all {whole} e g =
+        let k : length (weightsBy by s) ≡ n = ap length (of-all s by all) ∙ length-map (s .units) (weightOf by s) ∙ a .accepted .checked-sheet .unit-count ∙ sym (a .count) in
+        subst (λ (j : ℕ). take j out ≡ shares whole (map (weightOf by s) (s .units))) k (g ∙ rw (e, of-all s by all))
 
-    pub load-is : s .model ≡ 1 → total ≡ units-heat s → (r ≤ n) × (take r out ≡ shares total (weightsBy Load s)) → take n out ≡ heat wholeWh s
+    pub load-is : s .model ≡ 1 → total ≡ units-heat s → Shared total (weightsBy Load s) out → take n out ≡ heat wholeWh s
     unfolding heat allMetered
-    load-is m e g = rw (ne-eqb (s .model) 5 (λ z. omega arith), eq-eqb (s .model) 1 m) (over-units Load refl (load-heat m) e g)
+    load-is m e g = rw (ne-eqb (s .model) 5 (λ z. omega arith), eq-eqb (s .model) 1 m) (over-units Load refl e g)
 
-    pub area-is : s .model ≡ 2 → total ≡ units-heat s → (r ≤ n) × (take r out ≡ shares total (weightsBy Area s)) → take n out ≡ heat wholeWh s
+    pub area-is : s .model ≡ 2 → total ≡ units-heat s → Shared total (weightsBy Area s) out → take n out ≡ heat wholeWh s
     unfolding heat allMetered
-    area-is m e g = rw (ne-eqb (s .model) 5 (λ z. omega arith), ne-eqb (s .model) 1 (λ z. omega arith), eq-eqb (s .model) 2 m) (over-units Area refl area-heat e g)
+    area-is m e g = rw (ne-eqb (s .model) 5 (λ z. omega arith), ne-eqb (s .model) 1 (λ z. omega arith), eq-eqb (s .model) 2 m) (over-units Area refl e g)
 
-    pub common-heat-is : total ≡ common-heat s → (r ≤ n) × (take r out ≡ shares total (weightsBy Area s)) → take n out ≡ commonHeat wholeWh s
+    pub common-heat-is : total ≡ common-heat s → Shared total (weightsBy Area s) out → take n out ≡ commonHeat wholeWh s
     unfolding commonHeat
-    common-heat-is e g = over-units Area refl area-common-heat e g
+    common-heat-is e g = over-units Area refl e g
 
-    pub water-is : total ≡ waterParts wholeWh s .ofUnits → (r ≤ n) × (take r out ≡ shares total (weightsBy Water s)) → take n out ≡ water wholeWh s
+    pub water-is : total ≡ waterParts wholeWh s .ofUnits → Shared total (weightsBy Water s) out → take n out ≡ water wholeWh s
     unfolding water
-    water-is e g = over-units Water refl weighed-water e g
+    water-is e g = over-units Water refl e g
 
-    pub common-water-is : total ≡ waterParts wholeWh s .common → (r ≤ n) × (take r out ≡ shares total (weightsBy Persons s)) → take n out ≡ commonWater wholeWh s
+    pub common-water-is : total ≡ waterParts wholeWh s .common → Shared total (weightsBy Persons s) out → take n out ≡ commonWater wholeWh s
     unfolding commonWater
-    common-water-is e g = over-units Persons refl persons-water e g
+    common-water-is e g = over-units Persons refl e g

@@ -1,10 +1,16 @@
 -- An array of which a part is lent and given back. Assumes nothing.
-use mathlib.Core.Path.{_≡_}
-use Prim.Native.Nat.{ℕ, zero, suc, _-_}
+use mathlib.Core.Path.{_≡_, refl, ap}
+use mathlib.Core.List.{List, _∷_}
+use Prim.Native.Nat.{ℕ, zero, suc, _-_, _≤_}
 use native.Mathlib.Omega.{arith}
-use lib.ListN.{drop, replicate}
+use lib.ListN.{take, drop, replicate}
 
--- what stands behind a part of an array that nothing has been written to
+-- a part of an array that nothing has been written to, and what stands behind it
+pub front-untouched : (k n x : ℕ) → k ≤ n → take k (replicate n x) ≡ replicate k x
+front-untouched zero n x h = refl
+front-untouched (suc k) zero x h = absurd (omega arith)
+front-untouched (suc k) (suc n) x h = ap (λ (r : List ℕ). x ∷ r) (front-untouched k n x (omega arith))
+
 pub rest-untouched : (k n x : ℕ) → drop k (replicate n x) ≡ replicate (n - k) x
 rest-untouched zero n x = let e : n - 0 ≡ n = omega arith in rw e
 rest-untouched (suc k) zero x = let e : 0 - suc k ≡ 0 = omega arith in rw e

@@ -9,7 +9,6 @@ use native.Mathlib.Numerals.{add-one}
 use borrow.Author.Tests.{le-leb, ne-eqb}
 use lib.ListN.{length, getD, take, set, length-map}
 use lib.Seq.{take-suc-set, length-take-le, getD-take}
-use Rattle.apportion.specs.Shares.{shares}
 use Rattle.sheet.specs.Layout.{UnitRow, Sheet, sheetOf}
 use Rattle.month.specs.Weights.{those, isRead, readUnits, unreadUnits, allMetered, hasPool, unreadWeight, unreadWeights, poolWeight, readWeight, readWeights}
 use Rattle.month.specs.Steps.{wholeWh, poolShares, readShares, heat}
@@ -21,8 +20,7 @@ use Rattle.weights.specs.Inner.By.{weightsBy}
 use Rattle.weights.specs.Inner.Ready.{Accepts}
 use Rattle.weights.specs.declared.totals.Totals.{Totals}
 use Rattle.weights.specs.declared.gather.By.the-variants.{Unread, Read}
-use Rattle.settlement.specs.Inner.Division.{Divides}
-use Rattle.settlement.proofs.Dividing.{counted}
+use Rattle.settlement.specs.Inner.Division.{Divides, Shared}
 use Rattle.settlement.proofs.Order.{order, order-same}
 
 read-or-not : (us : List UnitRow) → length (those (λ u. not (isRead u)) us) + length (those isRead us) ≡ length us
@@ -62,12 +60,13 @@ module _ {bytes : List ℕ} {n : ℕ} {t : Totals} (a : Accepts bytes n t) (m : 
       pool-divides = (omega (arith, pool-is, pool-le s (a .accepted)), λ z. absurd (omega (arith, read-positive s (a .accepted) m)))
 
       -- STEPS 3 AND 4
-      pub heat-is : (read : List ℕ) {r : ℕ} → length read ≡ 160 → (r ≤ n) × (take r read ≡ shares v (weightsBy Read s)) → {xs : List ℕ} → xs ≡ order (s .units) unread read → xs ≡ heat wholeWh s
+      pub heat-is : (read : List ℕ) → Shared v (weightsBy Read s) read → {xs : List ℕ} → xs ≡ order (s .units) unread read → xs ≡ heat wholeWh s
       unfolding heat readShares weightsBy readWeights
-      heat-is read {r} l g o =
-          let j : r ≡ length (readUnits s) = counted (readWeight s) (readUnits s) read (pool-divides .1) (omega arith) (g .1) in
+      heat-is read g o =
+          let r = length (readWeights s) in
+          let j : r ≡ length (readUnits s) = length-map (readUnits s) (readWeight s) in
           o
           ∙ order-same (s .units) unread read (take (k + 1) unread) (take r read)
           (λ i h. sym (getD-take (k + 1) unread i 0 (omega arith)))
           (λ i h. sym (getD-take r read i 0 (omega arith)))
-          ∙ rw (e, ne-eqb (s .model) 1 (λ z. omega arith), ne-eqb (s .model) 2 (λ z. omega arith), p, g .1, pool-is)
+          ∙ rw (e, ne-eqb (s .model) 1 (λ z. omega arith), ne-eqb (s .model) 2 (λ z. omega arith), p, g, pool-is)

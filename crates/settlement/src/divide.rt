@@ -1,13 +1,13 @@
 // The divisions of a month.
 ghost use mathlib.Core.Path.{_≡_};
 ghost use Prim.Native.Nat.{_-_, _^_, _≤_, _<_};
-ghost use lib.ListN.{length, take};
+ghost use lib.ListN.{length, take, replicate};
 ghost use Rattle.apportion.specs.Shares.{sum, shares};
 ghost use Rattle.sheet.specs.Layout.{sheetOf};
 ghost use Rattle.month.specs.Steps.{wholeWh, splitBy};
 ghost use Rattle.weights.specs.Inner.By.{weightsBy};
 ghost use Rattle.weights.specs.Inner.Ready.{Accepts};
-ghost use Rattle.settlement.specs.Inner.Division.{Divides};
+ghost use Rattle.settlement.specs.Inner.Division.{Divides, Shared};
 use weights::Totals;
 use weights::gather::By;
 use weights::gather::gather;
@@ -22,15 +22,17 @@ pub(crate) fn share(total: u64, m: usize, weights: &[u64], out: &mut [u32])
     apportion::apportion(total, &weights[..m], &mut remainders[..m], &mut out[..m]);
 }
 
-// The total divided by the weights of the units that take part; returns how many they are.
-pub(crate) fn divide_by(s: &[u8], n: usize, by: By, t: Totals, total: u64, out: &mut [u32]) -> usize
-    requires { ⌜ Accepts (now s) n t × (length (now out) ≡ 160) × Divides total (weightsBy by (sheetOf (now s))) ⌝ }
-    ensures { λ r. ⌜ (r ≤ n) × (take r (now (out .exit)) ≡ shares total (weightsBy by (sheetOf (now (s .entry))))) ⌝ }
+// The total divided by the weights of the units that take part, at the front of a list that begins as zeros: with nothing to divide it stays.
+pub(crate) fn divide_by(s: &[u8], n: usize, by: By, t: Totals, total: u64, out: &mut [u32])
+    requires { ⌜ Accepts (now s) n t × (now out ≡ replicate 160 0) × Divides total (weightsBy by (sheetOf (now s))) ⌝ }
+    ensures { λ r. ⌜ Shared total (weightsBy by (sheetOf (now (s .entry)))) (now (out .exit)) ⌝ }
 {
+    if total == 0 {
+        return;
+    }
     let mut weights = [0u64; 160];
     let m = gather(s, n, by, t, &mut weights);
     share(total, m, &weights, out);
-    m
 }
 
 // The units' part and the common part.

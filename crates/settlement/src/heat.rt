@@ -2,7 +2,7 @@
 ghost use mathlib.Core.Path.{_≡_};
 ghost use mathlib.Core.Bool.{true};
 ghost use Prim.Native.Nat.{_+_, _<_};
-ghost use lib.ListN.{length, take};
+ghost use lib.ListN.{length, take, replicate};
 ghost use Rattle.sheet.specs.Tests.{if_then_else_};
 ghost use Rattle.sheet.specs.Layout.{sheetOf};
 ghost use Rattle.sheet.specs.Inner.Fits.{Fits};
@@ -126,7 +126,7 @@ pub(crate) fn heat_shares(
     units: &mut [u32],
     common: &mut [u32],
 )
-    requires { ⌜ Accepts (now s) n t × (h ≡ hotWaterWh (sheetOf (now s))) × (length (now units) ≡ 160) × (length (now common) ≡ 160) ⌝ }
+    requires { ⌜ Accepts (now s) n t × (h ≡ hotWaterWh (sheetOf (now s))) × (now units ≡ replicate 160 0) × (now common ≡ replicate 160 0) ⌝ }
     ensures { λ r. ⌜ (take n (now (units .exit)) ≡ heat wholeWh (sheetOf (now (s .entry)))) × (take n (now (common .exit)) ≡ commonHeat wholeWh (sheetOf (now (s .entry)))) ⌝ }
 {
     let parts = heat_parts(s, n, t, h);

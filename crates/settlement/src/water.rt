@@ -1,6 +1,6 @@
 // Step 6: each unit's water, and its part of the common water.
 ghost use mathlib.Core.Path.{_≡_};
-ghost use lib.ListN.{length, take};
+ghost use lib.ListN.{take, replicate};
 ghost use Rattle.sheet.specs.Layout.{sheetOf};
 ghost use Rattle.month.specs.Steps.{wholeWh, water, commonWater};
 ghost use Rattle.month.specs.Month.{hotWaterWh};
@@ -20,7 +20,7 @@ pub(crate) fn water_shares(
     units: &mut [u32],
     common: &mut [u32],
 )
-    requires { ⌜ Accepts (now s) n t × (h ≡ hotWaterWh (sheetOf (now s))) × (length (now units) ≡ 160) × (length (now common) ≡ 160) ⌝ }
+    requires { ⌜ Accepts (now s) n t × (h ≡ hotWaterWh (sheetOf (now s))) × (now units ≡ replicate 160 0) × (now common ≡ replicate 160 0) ⌝ }
     ensures { λ r. ⌜ (take n (now (units .exit)) ≡ water wholeWh (sheetOf (now (s .entry)))) × (take n (now (common .exit)) ≡ commonWater wholeWh (sheetOf (now (s .entry)))) ⌝ }
 {
     let parts = split(head(s, header::COMMON_WATER_PERCENT), h);

@@ -3,18 +3,18 @@ use mathlib.Core.Path.{_≡_}
 use mathlib.Core.Bool.{false}
 use mathlib.Core.List.{List}
 use Prim.Native.Nat.{ℕ, _<_}
-use lib.ListN.{length}
+use lib.ListN.{replicate}
 use Rattle.sheet.specs.Layout.{sheetOf}
 use Rattle.month.specs.Weights.{allMetered}
 use Rattle.month.specs.Steps.{wholeWh, heatParts}
 use Rattle.weights.specs.Inner.Ready.{Accepts}
 use Rattle.weights.specs.declared.totals.Totals.{Totals}
 
--- units' heat of a sheet that is not refused, and a list with room for 160 units
+-- units' heat of a sheet that is not refused, and a list of zeros for 160 units
 pub record UnitsHeat (bytes : List ℕ) (n : ℕ) (t : Totals) (total : ℕ) (out : List ℕ) : Type 0 where
   pub accepts : Accepts bytes n t
   pub total-is : total ≡ heatParts wholeWh (sheetOf bytes) .ofUnits
-  pub room : length out ≡ 160
+  pub zeros : out ≡ replicate 160 0
 
 -- models 3 to 5, step 2's exception apart
 pub record ByReadings (bytes : List ℕ) (n : ℕ) (t : Totals) (total : ℕ) (out : List ℕ) : Type 0 where

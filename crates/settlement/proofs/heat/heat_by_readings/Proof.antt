@@ -1,6 +1,7 @@
 -- Step 3 over the units not read and the pool, step 4 over the read ones, and both back in the order of the units.
-use mathlib.Core.Path.{refl}
+use mathlib.Core.Path.{refl, ap}
 use native.Mathlib.Omega.{arith}
+use lib.ListN.{length}
 use Rattle.settlement.proofs.Pool.{pool-divides, heat-is}
 use borrow.Author.Needs.{needs}
 use Rattle.settlement.proofs.heat.heat_by_readings.Statement.{statement}
@@ -37,7 +38,9 @@ slice-aggregate-merge-2 : tie.Need-slice-aggregate-merge-2
 slice-aggregate-merge-2 c = search needs
 
 merge-requires : tie.Need-merge-requires
-merge-requires c κs = search needs
+merge-requires c κs =
+    let p = c .before .before .before .before .before .before .before .before .before .before .before .before .pre .asked in
+    (p .accepts .ready .fits, p .accepts .count, omega (arith, c .before .before .before .before .before .before .before .before .pool-shares .kept), omega (arith, c .before .before .before .before .divide-by .kept), ap length (p .zeros))
 
 same-length : tie.Need-same-length
 same-length c = search needs
@@ -48,7 +51,7 @@ returns c =
     let f = c .before .before .before .before .before .before .before .before .before .before .before .pool-shares in
     let d = c .before .before .before .before .before .before .before .divide-by in
     heat-is (p .asked .accepts) (p .model) (p .unmetered) (f .last .1 .1 .1 .1 .0) (f .ensures .1) (f .ensures .2) (c .before .before .before .before .before .before .before .before .before .wide .ensures)
-    (d .last .1 .1 .1 .1 .1 .0) (omega (arith, d .kept)) (d .ensures) (c .before .before .merge .ensures)
+    (d .last .1 .1 .1 .1 .1 .0) (d .ensures) (c .before .before .merge .ensures)
 
 pub heat-by-readings-spec : {M : Type 1} → statement M
 heat-by-readings-spec =

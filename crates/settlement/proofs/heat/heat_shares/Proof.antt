@@ -1,5 +1,4 @@
 -- One part after the other.
-use native.Mathlib.Omega.{arith}
 use Rattle.settlement.proofs.Dividing.{area-common-heat, common-heat-is}
 use borrow.Author.Needs.{needs}
 use Rattle.settlement.proofs.heat.heat_shares.Statement.{statement}
@@ -24,7 +23,7 @@ returns : tie.Need-returns
 returns c =
     let p = c .before .before .before .before .before .before .before .before .before .before .before .before .pre in
     let d = c .before .before .divide-by in
-    (c .before .before .before .before .before .before .unit-heat .ensures, common-heat-is (p .0) (d .last .1 .1 .1 .1 .1 .0) (omega (arith, d .kept, p .3)) (c .before .before .before .before .before .before .before .before .heat-parts .ensures .1) (d .ensures))
+    (c .before .before .before .before .before .before .unit-heat .ensures, common-heat-is (p .0) (d .last .1 .1 .1 .1 .1 .0) (c .before .before .before .before .before .before .before .before .heat-parts .ensures .1) (d .ensures))
 
 pub heat-shares-spec : {M : Type 1} → statement M
 heat-shares-spec =

@@ -1,6 +1,7 @@
 -- The units not read, behind them the metered pool: as some unit is read, there is room for it.
+use mathlib.Core.Path.{ap}
 use native.Mathlib.Omega.{arith}
-use lib.ListN.{length-set}
+use lib.ListN.{length, length-set}
 use Rattle.sheet.specs.Layout.{sheetOf}
 use Rattle.month.specs.Steps.{poolShares}
 use Rattle.month.proofs.Accepted.{pool-positive}
@@ -46,7 +47,7 @@ share-requires c κs =
     let w = pool-weights (p .asked .accepts) (p .model) (g .last .1 .1 .1 .1 .0) (omega (arith, g .kept)) (g .ensures) in
     let s = sheetOf (st .args .s .now) in
     let a = p .asked .accepts .accepted in (
-      (omega (arith, w .few), simp length-set (omega (arith, w .few, g .kept)), omega (arith, w .few, p .asked .room)),
+      (omega (arith, w .few), simp length-set (omega (arith, w .few, g .kept)), omega (arith, w .few, ap length (p .asked .zeros))),
       rw (w .weights)
           ((omega (arith, p .asked .total-is, units-heat-le s a), λ z. absurd (omega (arith, pool-positive s a))), omega (arith, weight-bounds s (a .checked-sheet) .pool)),
     )

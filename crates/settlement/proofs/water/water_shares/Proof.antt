@@ -1,6 +1,5 @@
 -- H by (100 − y, y), each part over all units.
 use mathlib.Core.Path.{_≡_}
-use native.Mathlib.Omega.{arith}
 use Rattle.sheet.specs.Layout.{sheetOf}
 use Rattle.month.specs.Steps.{wholeWh, waterParts}
 use Rattle.month.specs.Month.{hotWaterWh}
@@ -39,8 +38,8 @@ returns c =
     let h = parts-are (c .before .before .before .before .before .before .before .before) in
     let u = c .before .before .before .before .before .before .divide-by in
     let d = c .before .before .divide-by2 in (
-      water-is (p .0) (u .last .1 .1 .1 .1 .1 .0) (omega (arith, u .kept, p .2)) (h .0) (u .ensures),
-      common-water-is (p .0) (d .last .1 .1 .1 .1 .1 .0) (omega (arith, d .kept, p .3)) (h .1) (d .ensures),
+      water-is (p .0) (u .last .1 .1 .1 .1 .1 .0) (h .0) (u .ensures),
+      common-water-is (p .0) (d .last .1 .1 .1 .1 .1 .0) (h .1) (d .ensures),
     )
 
 pub water-shares-spec : {M : Type 1} → statement M
