@@ -8,7 +8,7 @@ use std::arch::asm;
 const SIZE: usize = 1 << 18;
 const PAINT: u8 = 0xa5;
 /// What include/heatcost.h promises for every call.
-const PROMISED: usize = 49_152;
+const PROMISED: usize = 24_576;
 
 type Call<'a> = &'a mut dyn FnMut();
 

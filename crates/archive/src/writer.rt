@@ -89,7 +89,8 @@ fn write_up_to_160(sheet: &[u8], n: usize, out: &mut [u8]) -> Outcome
 // The record of a sheet into a list of 56 + 64n bytes: 1 to 12, then 13. A refused call leaves the list as it was.
 // Few units need little room.
 pub fn write(sheet: &[u8], out: &mut [u8]) -> Outcome
-    ensures { λ r. ⌜ (r ≡ writeAnswer (now (sheet .entry)) (now (out .entry))) × (now (out .exit) ≡ recordAfter (now (sheet .entry)) (now (out .entry))) ⌝ }
+    ensures { λ r. ⌜ r ≡ writeAnswer (now (sheet .entry)) (now (out .entry)) ⌝ }
+    ensures { λ _. ⌜ now (out .exit) ≡ recordAfter (now (sheet .entry)) (now (out .entry)) ⌝ }
 {
     let outcome = sheet::check_sheet(sheet);
     let Outcome::Accepted = outcome else {

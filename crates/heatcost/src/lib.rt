@@ -25,7 +25,8 @@ fn answer(outcome: Outcome) -> u32
 // The statement of a sheet into a list of 8n numbers.
 #[no_mangle]
 pub extern "C" fn heatcost_settle(sheet: &[u8], statement: &mut [u32]) -> u32
-    ensures { λ r. ⌜ (r ≡ answerNumber (settleAnswer (now (sheet .entry)) (now (statement .entry)))) × (now (statement .exit) ≡ statementAfter (now (sheet .entry)) (now (statement .entry))) ⌝ }
+    ensures { λ r. ⌜ r ≡ answerNumber (settleAnswer (now (sheet .entry)) (now (statement .entry))) ⌝ }
+    ensures { λ _. ⌜ now (statement .exit) ≡ statementAfter (now (sheet .entry)) (now (statement .entry)) ⌝ }
 {
     answer(settlement::settle(sheet, statement))
 }
@@ -33,7 +34,8 @@ pub extern "C" fn heatcost_settle(sheet: &[u8], statement: &mut [u32]) -> u32
 // The archive record of a sheet into a list of 56 + 64n bytes.
 #[no_mangle]
 pub extern "C" fn heatcost_write_record(sheet: &[u8], out: &mut [u8]) -> u32
-    ensures { λ r. ⌜ (r ≡ answerNumber (writeAnswer (now (sheet .entry)) (now (out .entry)))) × (now (out .exit) ≡ recordAfter (now (sheet .entry)) (now (out .entry))) ⌝ }
+    ensures { λ r. ⌜ r ≡ answerNumber (writeAnswer (now (sheet .entry)) (now (out .entry))) ⌝ }
+    ensures { λ _. ⌜ now (out .exit) ≡ recordAfter (now (sheet .entry)) (now (out .entry)) ⌝ }
 {
     answer(archive::write(sheet, out))
 }
@@ -58,35 +60,39 @@ pub extern "C" fn heatcost_record_sheet_len(bytes: &[u8]) -> u64
 // Opens a year book, a list of 15,557 numbers, with a sheet.
 #[no_mangle]
 pub extern "C" fn heatcost_open(book: &mut [u32], sheet: &[u8]) -> u32
-    ensures { λ r. ⌜ (r ≡ answerNumber (openAnswer (now (book .entry)) (now (sheet .entry)))) × (now (book .exit) ≡ bookOpened (now (book .entry)) (now (sheet .entry))) ⌝ }
+    ensures { λ r. ⌜ r ≡ answerNumber (openAnswer (now (book .entry)) (now (sheet .entry))) ⌝ }
+    ensures { λ _. ⌜ now (book .exit) ≡ bookOpened (now (book .entry)) (now (sheet .entry)) ⌝ }
 {
     answer(yearbook::open(book, sheet))
 }
 
 #[no_mangle]
 pub extern "C" fn heatcost_post(book: &mut [u32], sheet: &[u8]) -> u32
-    ensures { λ r. ⌜ (r ≡ answerNumber (postAnswer (now (book .entry)) (now (sheet .entry)))) × (now (book .exit) ≡ bookPosted (now (book .entry)) (now (sheet .entry))) ⌝ }
+    ensures { λ r. ⌜ r ≡ answerNumber (postAnswer (now (book .entry)) (now (sheet .entry))) ⌝ }
+    ensures { λ _. ⌜ now (book .exit) ≡ bookPosted (now (book .entry)) (now (sheet .entry)) ⌝ }
 {
     answer(yearbook::post(book, sheet))
 }
 
 #[no_mangle]
 pub extern "C" fn heatcost_replace(book: &mut [u32], sheet: &[u8]) -> u32
-    ensures { λ r. ⌜ (r ≡ answerNumber (replaceAnswer (now (book .entry)) (now (sheet .entry)))) × (now (book .exit) ≡ bookReplaced (now (book .entry)) (now (sheet .entry))) ⌝ }
+    ensures { λ r. ⌜ r ≡ answerNumber (replaceAnswer (now (book .entry)) (now (sheet .entry))) ⌝ }
+    ensures { λ _. ⌜ now (book .exit) ≡ bookReplaced (now (book .entry)) (now (sheet .entry)) ⌝ }
 {
     answer(yearbook::replace(book, sheet))
 }
 
 #[no_mangle]
 pub extern "C" fn heatcost_withdraw(book: &mut [u32], month: u32) -> u32
-    ensures { λ r. ⌜ (r ≡ answerNumber (withdrawAnswer (now (book .entry)) month)) × (now (book .exit) ≡ bookWithdrawn (now (book .entry)) month) ⌝ }
+    ensures { λ r. ⌜ r ≡ answerNumber (withdrawAnswer (now (book .entry)) month) ⌝ }
+    ensures { λ _. ⌜ now (book .exit) ≡ bookWithdrawn (now (book .entry)) month ⌝ }
 {
     answer(yearbook::withdraw(book, month))
 }
 
 fn put_totals(k: u32, sums: &[u64], totals: &mut [u64])
     requires { ⌜ (length (now sums) ≡ 8) × (length (now totals) ≡ 9) ⌝ }
-    ensures { λ r. ⌜ now (totals .exit) ≡ k ∷ now (sums .entry) ⌝ }
+    ensures { λ _. ⌜ now (totals .exit) ≡ k ∷ now (sums .entry) ⌝ }
 {
     totals[0] = k as u64;
     for j in 0..8usize {
@@ -97,7 +103,8 @@ fn put_totals(k: u32, sums: &[u64], totals: &mut [u64])
 // k and a unit's eight sums into a list of 9 numbers.
 #[no_mangle]
 pub extern "C" fn heatcost_year(book: &[u32], place: u32, totals: &mut [u64]) -> u32
-    ensures { λ r. ⌜ (r ≡ answerNumber (yearListAnswer (now (book .entry)) place (now (totals .entry)))) × (now (totals .exit) ≡ yearListAfter (now (book .entry)) place (now (totals .entry))) ⌝ }
+    ensures { λ r. ⌜ r ≡ answerNumber (yearListAnswer (now (book .entry)) place (now (totals .entry))) ⌝ }
+    ensures { λ _. ⌜ now (totals .exit) ≡ yearListAfter (now (book .entry)) place (now (totals .entry)) ⌝ }
 {
     let t = yearbook::year(book, place);
     let outcome = t.outcome;

@@ -28,7 +28,8 @@ use weights::wide;
 // Step 2.
 fn heat_parts(s: &[u8], n: usize, t: Totals, h: u64) -> Parts
     requires { ⌜ Accepts (now s) n t × (h ≡ hotWaterWh (sheetOf (now s))) ⌝ }
-    ensures { λ r. ⌜ (r .units ≡ heatParts wholeWh (sheetOf (now (s .entry))) .ofUnits) × (r .common ≡ heatParts wholeWh (sheetOf (now (s .entry))) .common) ⌝ }
+    ensures { λ r. ⌜ r .units ≡ heatParts wholeWh (sheetOf (now (s .entry))) .ofUnits ⌝ }
+    ensures { λ r. ⌜ r .common ≡ heatParts wholeWh (sheetOf (now (s .entry))) .common ⌝ }
 {
     let space_heat = head(s, header::SHARED_METER) - h;
     if all_metered(s, n, t) {
@@ -127,7 +128,8 @@ pub(crate) fn heat_shares(
     common: &mut [u32],
 )
     requires { ⌜ Accepts (now s) n t × (h ≡ hotWaterWh (sheetOf (now s))) × (now units ≡ replicate 160 0) × (now common ≡ replicate 160 0) ⌝ }
-    ensures { λ r. ⌜ (take n (now (units .exit)) ≡ heat wholeWh (sheetOf (now (s .entry)))) × (take n (now (common .exit)) ≡ commonHeat wholeWh (sheetOf (now (s .entry)))) ⌝ }
+    ensures { λ _. ⌜ take n (now (units .exit)) ≡ heat wholeWh (sheetOf (now (s .entry))) ⌝ }
+    ensures { λ _. ⌜ take n (now (common .exit)) ≡ commonHeat wholeWh (sheetOf (now (s .entry))) ⌝ }
 {
     let parts = heat_parts(s, n, t, h);
     unit_heat(s, n, t, parts.units, units);

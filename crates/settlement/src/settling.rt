@@ -45,7 +45,8 @@ fn write_statement(s: &[u8], n: usize, t: Totals, h: u64, statement: &mut [u32])
 // A sheet that passes 1 to 7: 8 to 12, then 13, then the statement.
 pub fn settle_checked(s: &[u8], statement: &mut [u32]) -> Outcome
     requires { ⌜ checked 32 (now s) ≡ Accepted ⌝ }
-    ensures { λ r. ⌜ (r ≡ settleAnswer (now (s .entry)) (now (statement .entry))) × (now (statement .exit) ≡ statementAfter (now (s .entry)) (now (statement .entry))) ⌝ }
+    ensures { λ r. ⌜ r ≡ settleAnswer (now (s .entry)) (now (statement .entry)) ⌝ }
+    ensures { λ _. ⌜ now (statement .exit) ≡ statementAfter (now (s .entry)) (now (statement .entry)) ⌝ }
 {
     let n = header::header_field(s, header::UNIT_COUNT) as usize;
     let t = sum_rows(s, n);
@@ -63,7 +64,8 @@ pub fn settle_checked(s: &[u8], statement: &mut [u32]) -> Outcome
 
 // The statement of a sheet into a list of 8n numbers: 1 to 12, then 13. A refused call leaves the list as it was.
 pub fn settle(sheet: &[u8], statement: &mut [u32]) -> Outcome
-    ensures { λ r. ⌜ (r ≡ settleAnswer (now (sheet .entry)) (now (statement .entry))) × (now (statement .exit) ≡ statementAfter (now (sheet .entry)) (now (statement .entry))) ⌝ }
+    ensures { λ r. ⌜ r ≡ settleAnswer (now (sheet .entry)) (now (statement .entry)) ⌝ }
+    ensures { λ _. ⌜ now (statement .exit) ≡ statementAfter (now (sheet .entry)) (now (statement .entry)) ⌝ }
 {
     let outcome = sheet::check_sheet(sheet);
     let Outcome::Accepted = outcome else {

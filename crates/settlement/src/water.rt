@@ -21,7 +21,8 @@ pub(crate) fn water_shares(
     common: &mut [u32],
 )
     requires { ⌜ Accepts (now s) n t × (h ≡ hotWaterWh (sheetOf (now s))) × (now units ≡ replicate 160 0) × (now common ≡ replicate 160 0) ⌝ }
-    ensures { λ r. ⌜ (take n (now (units .exit)) ≡ water wholeWh (sheetOf (now (s .entry)))) × (take n (now (common .exit)) ≡ commonWater wholeWh (sheetOf (now (s .entry)))) ⌝ }
+    ensures { λ _. ⌜ take n (now (units .exit)) ≡ water wholeWh (sheetOf (now (s .entry))) ⌝ }
+    ensures { λ _. ⌜ take n (now (common .exit)) ≡ commonWater wholeWh (sheetOf (now (s .entry))) ⌝ }
 {
     let parts = split(head(s, header::COMMON_WATER_PERCENT), h);
     divide_by(s, n, By::Water, t, parts.units, units);

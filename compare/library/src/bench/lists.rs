@@ -8,9 +8,10 @@ use compare::fast;
 use std::hint::black_box;
 
 const MODELS: [u8; 5] = [1, 2, 3, 4, 5];
+const MANY: usize = 40;
 
 pub fn run(seed: u64) {
-    print_pair_head("other calls");
+    print_pair_head("other calls", ["library", "fast form"]);
     for count in [160, 8] {
         let sheets = settled_sheets(seed, 1, count, &MODELS);
         check(count, &sheets[0]);
@@ -18,6 +19,10 @@ pub fn run(seed: u64) {
         read(count, &sheets[0]);
         post(count, &sheets[0]);
         year(count, &sheets[0]);
+    }
+    print_pair_head("records beside settling", ["record", "settle"]);
+    for count in [160, 8, 1] {
+        beside_settling(count, &settled_sheets(seed, MANY, count, &MODELS));
     }
 }
 
@@ -28,12 +33,15 @@ fn check(count: usize, sheet: &[u8]) {
     let [mut a, mut b] = [vec![0; BOOK_LEN], vec![0; BOOK_LEN]];
     print_pair(
         &format!("n {count}, check, refused at its end"),
-        &mut || {
-            black_box(calls::open(&mut a, black_box(&sheet)));
-        },
-        &mut || {
-            black_box(fast::book::open(&mut b, black_box(&sheet))).ok();
-        },
+        1,
+        [
+            &mut || {
+                black_box(calls::open(&mut a, black_box(&sheet)));
+            },
+            &mut || {
+                black_box(fast::book::open(&mut b, black_box(&sheet))).ok();
+            },
+        ],
     );
 }
 
@@ -42,12 +50,15 @@ fn write(count: usize, sheet: &[u8]) {
     let [mut a, mut b] = [vec![0; len], vec![0; len]];
     print_pair(
         &format!("n {count}, write a record"),
-        &mut || {
-            black_box(calls::write_record(black_box(sheet), &mut a));
-        },
-        &mut || {
-            black_box(fast::record::write(black_box(sheet), &mut b)).ok();
-        },
+        1,
+        [
+            &mut || {
+                black_box(calls::write_record(black_box(sheet), &mut a));
+            },
+            &mut || {
+                black_box(fast::record::write(black_box(sheet), &mut b)).ok();
+            },
+        ],
     );
 }
 
@@ -56,12 +67,15 @@ fn read(count: usize, sheet: &[u8]) {
     calls::write_record(sheet, &mut record);
     print_pair(
         &format!("n {count}, read a record"),
-        &mut || {
-            black_box(calls::read_record(black_box(&record)));
-        },
-        &mut || {
-            black_box(fast::record::read(black_box(&record))).ok();
-        },
+        1,
+        [
+            &mut || {
+                black_box(calls::read_record(black_box(&record)));
+            },
+            &mut || {
+                black_box(fast::record::read(black_box(&record))).ok();
+            },
+        ],
     );
 }
 
@@ -74,12 +88,15 @@ fn post(count: usize, sheet: &[u8]) {
     }
     print_pair(
         &format!("n {count}, replace a month"),
-        &mut || {
-            black_box(calls::replace(&mut a, black_box(sheet)));
-        },
-        &mut || {
-            black_box(fast::book::replace(&mut b, black_box(sheet))).ok();
-        },
+        1,
+        [
+            &mut || {
+                black_box(calls::replace(&mut a, black_box(sheet)));
+            },
+            &mut || {
+                black_box(fast::book::replace(&mut b, black_box(sheet))).ok();
+            },
+        ],
     );
 }
 
@@ -96,11 +113,55 @@ fn year(count: usize, sheet: &[u8]) {
     let mut totals = [0; 9];
     print_pair(
         &format!("n {count}, year of a unit"),
-        &mut || {
-            black_box(calls::year(black_box(&book), place, &mut totals));
-        },
-        &mut || {
-            black_box(fast::book::year(black_box(&book), place)).ok();
-        },
+        1,
+        [
+            &mut || {
+                black_box(calls::year(black_box(&book), place, &mut totals));
+            },
+            &mut || {
+                black_box(fast::book::year(black_box(&book), place)).ok();
+            },
+        ],
     );
+}
+
+/// Writing and reading the records of some sheets, and settling the sheets.
+fn beside_settling(count: usize, sheets: &[Vec<u8>]) {
+    let mut record = vec![0; 56 + 64 * count];
+    let mut records = Vec::new();
+    for sheet in sheets {
+        calls::write_record(sheet, &mut record);
+        records.push(record.clone());
+    }
+    let [mut a, mut b] = [vec![0; 8 * count], vec![0; 8 * count]];
+    print_pair(
+        &format!("n {count}, write"),
+        sheets.len(),
+        [
+            &mut || {
+                for sheet in sheets {
+                    black_box(calls::write_record(black_box(sheet), &mut record));
+                }
+            },
+            &mut || settle_all(sheets, &mut a),
+        ],
+    );
+    print_pair(
+        &format!("n {count}, read"),
+        sheets.len(),
+        [
+            &mut || {
+                for record in &records {
+                    black_box(calls::read_record(black_box(record)));
+                }
+            },
+            &mut || settle_all(sheets, &mut b),
+        ],
+    );
+}
+
+fn settle_all(sheets: &[Vec<u8>], statement: &mut [u32]) {
+    for sheet in sheets {
+        black_box(calls::settle(black_box(sheet), statement));
+    }
 }

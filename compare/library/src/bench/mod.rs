@@ -37,16 +37,16 @@ fn print_line(name: &str, items: usize, mut sides: [Side; 3]) {
     );
 }
 
-fn print_pair_head(title: &str) {
-    println!(
-        "\n{title:34} {:>9} {:>9} {:>6}",
-        "library", "fast form", "ratio"
-    );
+fn print_pair_head(title: &str, sides: [&str; 2]) {
+    let [a, b] = sides;
+    println!("\n{title:34} {a:>9} {b:>9} {:>6}", "ratio");
 }
 
-fn print_pair(name: &str, library: Side, fast: Side) {
-    let [library, fast] = best_times(&mut [library, fast], TURNS, TURN);
-    println!("{name:34} {library:9.1} {fast:9.1} {:6.2}", library / fast);
+/// The same for two sides.
+fn print_pair(name: &str, items: usize, mut sides: [Side; 2]) {
+    let best = best_times(&mut sides, TURNS, TURN);
+    let [a, b] = best.map(|time| time / items as f64);
+    println!("{name:34} {a:9.1} {b:9.1} {:6.2}", a / b);
 }
 
 /// Nanoseconds a call of each side.
