@@ -5,8 +5,8 @@
  * else 0. A refused call leaves every lent list as it was.
  *
  * No call uses the heap: memcpy and memset are all that the archive needs from outside (`nm -u`). HEATCOST_STACK bytes
- * of stack are enough for every call. Settling takes 20,000 of them; writing a record 40,500; reading a record, posting
- * and replacing 35,500; opening, withdrawing and the year call 200. `compare/run stack` measures this on a painted stack.
+ * of stack are enough for every call. Settling takes 18,000 of them; writing or reading a record, posting and replacing
+ * 23,100; opening, withdrawing and the year call 200. `compare/run stack` measures this on a painted stack.
  */
 #ifndef HEATCOST_H
 #define HEATCOST_H
@@ -14,7 +14,7 @@
 #include <stddef.h>
 #include <stdint.h>
 
-#define HEATCOST_STACK 49152
+#define HEATCOST_STACK 24576
 
 #ifdef __cplusplus
 extern "C" {
