@@ -97,7 +97,7 @@ impl Run {
         self.withdraw(1);
     }
 
-    /// The run that the definitions compute (crate yearbook, specs/Runs.antt).
+    /// The run that the definitions compute (crate yearbook, specs/Cases/Runs.antt).
     fn computed(&mut self) {
         self.open(&overcharged(6));
         self.year(0);
