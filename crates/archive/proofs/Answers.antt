@@ -5,8 +5,8 @@ use mathlib.Core.List.{List, [], _∷_}
 use Prim.Native.Nat.{ℕ, _+_, _*_, _-_, _≤_, _<_}
 use native.Mathlib.Omega.{arith}
 use borrow.Author.Tests.{lt-ltb, le-ltb, eq-eqb, ne-eqb}
-use lib.ListN.{length, take, drop, replicate, length-drop, length-replicate}
-use lib.Seq.{take-all, length-take-le}
+use lib.ListN.{length, take, drop, replicate, length-drop}
+use lib.Seq.{take-all}
 use Rattle.sheet.specs.declared.refusal.Refusal.{Refusal}
 use Rattle.sheet.specs.declared.refusal.Refusal.the-variants.{BufferLength, BadArchive}
 use Rattle.sheet.specs.declared.refusal.Outcome.{Outcome}
@@ -17,6 +17,7 @@ use Rattle.sheet.specs.Check.{sameList, sheetRules, checked}
 use Rattle.sheet.proofs.Fits.{fits}
 use Rattle.month.specs.Month.{settled, statementOf, monthOf, monthRules, settledSheet}
 use Rattle.settlement.specs.Settle.{settleAnswer, statementAfter}
+use Rattle.settlement.proofs.Parts.{lent-length}
 use Rattle.settlement.proofs.Answers.{orElse, first-of-both, settled-in-order, answer-is, settles, statement-is}
 use Rattle.archive.specs.Record.{archiveHead, archiveRecord}
 use Rattle.archive.specs.Reader.{body, sheetLength, bodyRules, readRules, readOutcome}
@@ -26,11 +27,8 @@ use Rattle.archive.proofs.Inside.{end, inside, behind, all-length, same
 use Rattle.archive.proofs.RoundTrip.{checked-body}
 
 -- ---- the first 8n places of an array, lent
-pub lent-length : (size n : ℕ) → 8 * n ≤ size → length {A = ℕ} (take (8 * n) (replicate size 0)) ≡ 8 * n
-lent-length size n h = length-take-le (8 * n) (replicate size 0) (omega (arith, length-replicate {A = ℕ} size 0))
-
 pub with-room : {perUnit : ℕ} {bytes : List ℕ} {n : ℕ} (size : ℕ) → Counted perUnit bytes n → 8 * n ≤ size → WithRoom perUnit bytes (take (8 * n) (replicate size 0))
-with-room {n = n} size c h = record { passed = c .passed; room = lent-length size n h ∙ ap (λ (k : ℕ). 8 * k) (c .count) }
+with-room {n = n} size c h = record { passed = c .passed; room = lent-length size (8 * n) h ∙ ap (λ (k : ℕ). 8 * k) (c .count) }
 
 -- ---- the writer: 1 to 12, then 13
 module _ (sheet list : List ℕ) where

@@ -73,9 +73,9 @@ module _ {bytes : List ℕ} {n : ℕ} {t : Totals} (a : Accepts bytes n t) where
   persons-water = divides Persons refl (waterParts wholeWh s .common) (common-water-le s (a .accepted)) (common-water-divisible s (a .accepted))
 
   -- ---- nothing divided
-  pub none-shared : (by : By) {total : ℕ} {out : List ℕ} → total ≡ 0 → out ≡ replicate 160 0 → Shared total (weightsBy by s) out
+  pub zeros-shared : (by : By) {total : ℕ} {out : List ℕ} → total ≡ 0 → out ≡ replicate 160 0 → Shared total (weightsBy by s) out
   unfolding weightsBy
-  none-shared by z e =
+  zeros-shared by z e =
       let us = those (takesPart by) (s .units) in
       let few : length (map (weightOf by s) us) ≤ 160 = omega (arith, length-map us (weightOf by s), those-fewer (takesPart by) (s .units), a .accepted .checked-sheet .unit-count, a .accepted .checked-sheet .header .unitCount) in
       rw (z, e) (front-untouched _ 160 0 few ∙ sym (shares-none remainder (map (weightOf by s) us)))

@@ -3,7 +3,12 @@ use mathlib.Core.Path.{_≡_, refl, ap}
 use mathlib.Core.List.{List, _∷_}
 use Prim.Native.Nat.{ℕ, zero, suc, _-_, _≤_}
 use native.Mathlib.Omega.{arith}
-use lib.ListN.{take, drop, replicate}
+use lib.ListN.{length, take, drop, replicate, length-replicate}
+use lib.Seq.{length-take-le}
+
+-- the first k places of an array of zeros, lent
+pub lent-length : (size k : ℕ) → k ≤ size → length {A = ℕ} (take k (replicate size 0)) ≡ k
+lent-length size k h = length-take-le k (replicate size 0) (omega (arith, length-replicate {A = ℕ} size 0))
 
 -- a part of an array that nothing has been written to, and what stands behind it
 pub front-untouched : (k n x : ℕ) → k ≤ n → take k (replicate n x) ≡ replicate k x

@@ -3,8 +3,8 @@ use Prim.Native.Nat.{ℕ, _*_, _≤_}
 use native.Mathlib.Omega.{arith}
 use borrow.Author.Needs.{needs}
 use lib.ListN.{length, take, replicate}
-use lib.Seq.{length-take-le}
 use Rattle.sheet.proofs.Fits.{fits}
+use Rattle.settlement.proofs.Parts.{lent-length}
 use Rattle.printing.proofs.print_checked.Statement.{statement}
 use Rattle.printing.proofs.print_checked.Tie as tie
 
@@ -13,7 +13,7 @@ room : (c : tie.After-header-field) → 8 * c .header-field .result ≤ 1280
 room c = omega (arith, c .header-field .ensures, fits 32 _ (c .before .before .pre) .header .unitCount)
 
 part : (c : tie.After-header-field) → length {A = ℕ} (take (8 * c .header-field .result) (replicate 1280 0)) ≡ 8 * c .header-field .result
-part c = length-take-le (8 * c .header-field .result) (replicate 1280 0) (room c)
+part c = lent-length 1280 (8 * c .header-field .result) (room c)
 
 header-field-requires : tie.Need-header-field-requires
 header-field-requires c κs = (omega (arith, fits 32 _ (c .before .pre) .byteCount), omega arith)

@@ -1,8 +1,10 @@
 -- The first 8n places of the array are lent.
 use mathlib.Core.Path.{sym}
+use Prim.Native.Nat.{_*_}
 use native.Mathlib.Omega.{arith}
 use borrow.Author.Needs.{needs}
-use Rattle.archive.proofs.Answers.{lent-length, with-room}
+use Rattle.settlement.proofs.Parts.{lent-length}
+use Rattle.archive.proofs.Answers.{with-room}
 use Rattle.archive.proofs.writer.write_up_to_16.Statement.{statement}
 use Rattle.archive.proofs.writer.write_up_to_16.Tie as tie
 
@@ -13,7 +15,7 @@ array-borrow-prefix-numbers : tie.Need-array-borrow-prefix-numbers
 array-borrow-prefix-numbers c = search needs
 
 slice-aggregate-write-in : tie.Need-slice-aggregate-write-in
-slice-aggregate-write-in c = let st = c .before .before .before in sym (lent-length 128 (st .args .n) (omega (arith, st .pre .1)))
+slice-aggregate-write-in c = let st = c .before .before .before in sym (lent-length 128 (8 * st .args .n) (omega (arith, st .pre .1)))
 
 write-in-requires : tie.Need-write-in-requires
 write-in-requires c κs = let st = c .before .before .before .before in with-room 128 (st .pre .0) (omega (arith, st .pre .1))

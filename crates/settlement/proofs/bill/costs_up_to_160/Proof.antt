@@ -3,13 +3,13 @@ use mathlib.Core.Path.{_≡_, sym}
 use Prim.Native.Nat.{ℕ, _*_}
 use native.Mathlib.Omega.{arith}
 use lib.ListN.{length, take, replicate}
-use lib.Seq.{length-take-le}
+use Rattle.settlement.proofs.Parts.{lent-length}
 use borrow.Author.Needs.{needs}
 use Rattle.settlement.proofs.bill.costs_up_to_160.Statement.{statement}
 use Rattle.settlement.proofs.bill.costs_up_to_160.Tie as tie
 
 part : (st : tie.Start) → length {A = ℕ} (take (4 * st .args .n) (replicate 640 0)) ≡ 4 * st .args .n
-part st = length-take-le (4 * st .args .n) (replicate 640 0) (omega (arith, st .pre .count, st .pre .fits .header .unitCount))
+part st = lent-length 640 (4 * st .args .n) (omega (arith, st .pre .count, st .pre .fits .header .unitCount))
 
 mul-m : tie.Need-mul-m
 mul-m c = search needs

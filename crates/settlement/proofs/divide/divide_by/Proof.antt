@@ -7,13 +7,13 @@ use lib.ListN.{length, take}
 use lib.Seq.{length-take-le}
 use Rattle.apportion.specs.Shares.{shares}
 use Rattle.sheet.specs.Layout.{sheetOf}
-use Rattle.settlement.proofs.Dividing.{weights-fit, none-shared}
+use Rattle.settlement.proofs.Dividing.{weights-fit, zeros-shared}
 use borrow.Author.Needs.{needs}
 use Rattle.settlement.proofs.divide.divide_by.Statement.{statement}
 use Rattle.settlement.proofs.divide.divide_by.Tie as tie
 
 returns : tie.Need-returns
-returns c = let st = c .before .before .before in none-shared (st .pre .0) (st .args .by) (omega arith) (st .pre .1)
+returns c = let st = c .before .before .before in zeros-shared (st .pre .0) (st .args .by) (omega arith) (st .pre .1)
 
 slice-aggregate-gather : tie.Need-slice-aggregate-gather
 slice-aggregate-gather c = search needs

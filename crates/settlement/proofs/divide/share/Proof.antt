@@ -1,17 +1,13 @@
 -- The first m weights, remainders and numbers are lent to `apportion`; what it writes stands before the rest of the list.
 use mathlib.Core.Path.{_≡_, sym, ap, _∙_}
-use Prim.Native.Nat.{ℕ}
 use native.Mathlib.Omega.{arith}
-use lib.ListN.{length, take, drop, replicate, length-take}
+use lib.ListN.{length, take, drop, length-take}
 use lib.Seq.{length-take-le, take-at}
 use Rattle.apportion.proofs.Laws.{shares-fair}
+use Rattle.settlement.proofs.Parts.{lent-length}
 use borrow.Author.Needs.{needs}
 use Rattle.settlement.proofs.divide.share.Statement.{statement}
 use Rattle.settlement.proofs.divide.share.Tie as tie
-
--- the lent part of the remainders
-zeros : (st : tie.Start) → length {A = ℕ} (take (st .args .m) (replicate 160 0)) ≡ st .args .m
-zeros st = length-take-le (st .args .m) (replicate 160 0) (st .pre .0 .0)
 
 slice-aggregate-apportion : tie.Need-slice-aggregate-apportion
 slice-aggregate-apportion c = simp length-take (omega arith)
@@ -20,7 +16,7 @@ array-borrow-prefix-remainders : tie.Need-array-borrow-prefix-remainders
 array-borrow-prefix-remainders c = search needs
 
 slice-aggregate-apportion-2 : tie.Need-slice-aggregate-apportion-2
-slice-aggregate-apportion-2 c = let st = c .before .before .before .before in sym (zeros st)
+slice-aggregate-apportion-2 c = let st = c .before .before .before .before in sym (lent-length 160 (st .args .m) (st .pre .0 .0))
 
 slice-relend-prefix-apportion : tie.Need-slice-relend-prefix-apportion
 slice-relend-prefix-apportion c = search needs
@@ -33,7 +29,7 @@ apportion-requires c κs =
     let st = c .before .before .before .before .before in
     let a = st .args in
     let l = length-take-le (a .m) (a .weights .now) (omega arith) in
-    ((st .pre .1 .0 .0, st .pre .1 .1, st .pre .1 .0 .1), (zeros st ∙ sym l, length-take-le (a .m) (a .out .now) (omega arith) ∙ sym l))
+    ((st .pre .1 .0 .0, st .pre .1 .1, st .pre .1 .0 .1), (lent-length 160 (a .m) (st .pre .0 .0) ∙ sym l, length-take-le (a .m) (a .out .now) (omega arith) ∙ sym l))
 
 same-length : tie.Need-same-length
 same-length c = search needs
