@@ -50,7 +50,7 @@ uint32_t heatcost_replace(uint32_t *book, size_t book_len, const uint8_t *sheet,
 uint32_t heatcost_withdraw(uint32_t *book, size_t book_len, uint32_t month);
 
 /* Writes 9 numbers for the unit at a place from 0: how many months stand, then its four sums of Wh and four of cents
- * over them. Refusals 15, 18, then 13 unless totals_len is 9. */
+ * over them. Refusals 15, then 13 unless totals_len is 9, then 18. */
 uint32_t heatcost_year(const uint32_t *book, size_t book_len, uint32_t place, uint64_t *totals, size_t totals_len);
 
 #ifdef __cplusplus

@@ -82,6 +82,18 @@ pub fn year(list: &[u32], place: u32) -> Result<YearSums, Refusal> {
     Ok(wrong::year_answer(list, answer))
 }
 
+/// The year call into a list of 9 numbers, k and the sums: refusals 15, 13 and 18.
+pub fn year_into(list: &[u32], place: u32, totals: &mut [u64]) -> Result<(), Refusal> {
+    let fits = totals.len() == 9;
+    wrong::before_year_list(list, place, fits)?;
+    check_book(list)?;
+    refuse_if(!fits, BUFFER_LENGTH)?;
+    let answer = year(list, place)?;
+    totals[0] = u64::from(answer.months);
+    totals[1..].copy_from_slice(&answer.sums);
+    Ok(())
+}
+
 /// Refusal 15, opening apart.
 pub fn check_book(list: &[u32]) -> Result<(), Refusal> {
     let right = list.len() != BOOK_LEN

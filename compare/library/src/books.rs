@@ -81,12 +81,9 @@ impl Books {
             9
         };
         let mut totals = vec![5; len];
+        let mut list = vec![5; len];
         let number = calls::year(&self.theirs, place, &mut totals);
-        let (expected, list) = match book::year(&self.ours, place) {
-            Ok(_) if len != 9 => (13, vec![5; len]),
-            Ok(year) => (0, [&[u64::from(year.months)], &year.sums[..]].concat()),
-            Err(refusal) => (refusal.number, vec![5; len]),
-        };
+        let expected = answer(&book::year_into(&self.ours, place, &mut list));
         tally.count("year", number);
         let input = self.input(&place.to_le_bytes());
         self.agree(["year", "year: book"], &input, expected, number)?;

@@ -158,6 +158,16 @@ pub fn place_first(list: &[u32], place: u32) -> Result<(), Refusal> {
     refuse_if(misread(YearPlaceFirst) && beyond, NO_SUCH_UNIT)
 }
 
+/// 15, 13 and 18 in another order.
+pub fn before_year_list(list: &[u32], place: u32, fits: bool) -> Result<(), Refusal> {
+    match current() {
+        Some(YearPlaceFirst) => place_first(list, place),
+        Some(YearListFirst) => refuse_if(!fits, BUFFER_LENGTH),
+        Some(YearListLast) => year(list, place).map(|_| ()),
+        _ => Ok(()),
+    }
+}
+
 /// The place that the year call sums, or nothing where 18 refuses it.
 pub fn year_place(list: &[u32], place: u32) -> Option<Option<u32>> {
     let count = list[UNIT_COUNT];

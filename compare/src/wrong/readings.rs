@@ -204,6 +204,8 @@ readings! {
     YearPlaceOfCount "place n allowed",
     YearPlaceFromOne "place counted from 1",
     YearPlaceFirst "18 tested before 15",
+    YearListFirst "13 tested before 15 in the year call",
+    YearListLast "13 tested after 18",
     YearIn32Bits "year sums in 32 bits",
 }
 

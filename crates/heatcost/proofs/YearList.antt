@@ -1,5 +1,7 @@
--- The year call with a lent list: refused, a list of another length, and accepted. Assumes nothing.
+-- The year call with a lent list: of another length, refused, and accepted. Assumes nothing.
 use mathlib.Core.Path.{_≡_, refl, sym, ap, ap₂, subst, _∙_}
+use mathlib.Core.Logic.{inl, inr}
+use mathlib.Core.Bool.{true, false}
 use mathlib.Core.List.{List, [], _∷_, _++_}
 use Prim.Native.Nat.{ℕ, suc, _+_, _<_}
 use native.Mathlib.Numerals.{add-one}
@@ -8,12 +10,14 @@ use borrow.Author.Tests.{eq-eqb, ne-eqb}
 use lib.ListN.{length, getD, set, take}
 use lib.Seq.{take-suc, take-suc-set}
 use Rattle.sheet.specs.declared.refusal.Refusal.{Refusal}
-use Rattle.sheet.specs.declared.refusal.Refusal.the-variants.{BufferLength}
+use Rattle.sheet.specs.declared.refusal.Refusal.the-variants.{BadYearBook, BufferLength}
 use Rattle.sheet.specs.declared.refusal.Outcome.{Outcome}
 use Rattle.sheet.specs.declared.refusal.Outcome.the-variants.{Accepted, Refused}
+use Rattle.sheet.specs.Refusals.{firstRefusal}
 use Rattle.sheet.specs.Inner.Places.{PlaceBelow}
+use Rattle.month.proofs.Lists.{decided}
 use Rattle.yearbook.specs.declared.totals.YearTotals.{YearTotals}
-use Rattle.yearbook.specs.LentBook.{yearOutcome, marksIn, yearSums, totalsBy}
+use Rattle.yearbook.specs.LentBook.{badBook, yearRules, yearOutcome, marksIn, yearSums, totalsBy}
 use Rattle.yearbook.proofs.Places.{year-place}
 use Rattle.heatcost.specs.Year.{yearListAnswer, yearListAfter}
 
@@ -28,26 +32,34 @@ module _ (book : List ℕ) (place : ℕ) (list : List ℕ) (t : YearTotals) (who
   pub outcome-place : PlaceBelow 160 (t .outcome)
   outcome-place = subst (PlaceBelow 160) (sym same-outcome) (year-place book place)
 
-  pub refused-list : (r : Refusal) → t .outcome ≡ Refused r → (t .outcome ≡ yearListAnswer book place list) × (list ≡ yearListAfter book place list)
-  unfolding yearListAnswer yearListAfter
-  refused-list r e =
-      let f : yearOutcome book place ≡ Refused r = sym same-outcome ∙ e in
-      rw f (e, refl)
+  module _ (right : length list ≡ 9) where
+    pub same-answer : t .outcome ≡ yearListAnswer book place list
+    unfolding yearListAnswer yearOutcome yearRules firstRefusal
+    same-answer = same-outcome ∙ elim (decided (badBook book)) [ inl e ↦ rw e refl | inr e ↦ rw (e, eq-eqb (length list) 9 right) refl ]
 
-  module _ (e : t .outcome ≡ Accepted) where
-    accepted : yearOutcome book place ≡ Accepted
-    accepted = sym same-outcome ∙ e
+    pub refused-list : (r : Refusal) → t .outcome ≡ Refused r → list ≡ yearListAfter book place list
+    unfolding yearListAfter
+    refused-list r e =
+        let f : yearListAnswer book place list ≡ Refused r = sym same-answer ∙ e in
+        rw f refl
 
-    pub wrong-list : (length list ≡ 9 → ⊥) → (Refused BufferLength ≡ yearListAnswer book place list) × (list ≡ yearListAfter book place list)
-    unfolding yearListAnswer yearListAfter
-    wrong-list h = rw (accepted, ne-eqb (length list) 9 h) (refl, refl)
-
-    pub written-list : length list ≡ 9 → (Accepted ≡ yearListAnswer book place list) × (t .k ∷ t .sums ≡ yearListAfter book place list)
-    unfolding yearListAnswer yearListAfter
-    written-list h =
-        let w : t ≡ totalsBy Accepted (marksIn book) (yearSums book place) = whole ∙ ap (λ (o : Outcome). totalsBy o (marksIn book) (yearSums book place)) accepted in
+    pub written-list : t .outcome ≡ Accepted → t .k ∷ t .sums ≡ yearListAfter book place list
+    unfolding yearListAfter
+    written-list e =
+        let f : yearListAnswer book place list ≡ Accepted = sym same-answer ∙ e in
+        let w : t ≡ totalsBy Accepted (marksIn book) (yearSums book place) = whole ∙ ap (λ (o : Outcome). totalsBy o (marksIn book) (yearSums book place)) (sym same-outcome ∙ e) in
         let same = ap (λ (x : YearTotals). x .k ∷ x .sums) w in
-        rw (accepted, eq-eqb (length list) 9 h) (refl, same)
+        rw f same
+
+-- a list of another length: 15, then 13
+module _ (book : List ℕ) (place : ℕ) (list : List ℕ) where
+  pub bad-book : badBook book ≡ true → (Refused BadYearBook ≡ yearListAnswer book place list) × (list ≡ yearListAfter book place list)
+  unfolding yearListAnswer yearListAfter firstRefusal
+  bad-book e = rw e (refl, refl)
+
+  pub wrong-list : badBook book ≡ false → (length list ≡ 9 → ⊥) → (Refused BufferLength ≡ yearListAnswer book place list) × (list ≡ yearListAfter book place list)
+  unfolding yearListAnswer yearListAfter firstRefusal
+  wrong-list e h = rw (e, ne-eqb (length list) 9 h) (refl, refl)
 
 -- one more of the sums written behind k
 pub next-sum : (k j v : ℕ) (sums list : List ℕ) → j < length sums → 1 + j < length list → v ≡ getD sums j 0 → take (1 + j) list ≡ k ∷ take j sums

@@ -100,21 +100,24 @@ fn put_totals(k: u32, sums: &[u64], totals: &mut [u64])
     }
 }
 
-// k and a unit's eight sums into a list of 9 numbers.
+// k and a unit's eight sums into a list of 9 numbers: 15, 13, 18.
 #[no_mangle]
 pub extern "C" fn heatcost_year(book: &[u32], place: u32, totals: &mut [u64]) -> u32
     ensures { λ r. ⌜ r ≡ answerNumber (yearListAnswer (now (book .entry)) place (now (totals .entry))) ⌝ }
     ensures { λ _. ⌜ now (totals .exit) ≡ yearListAfter (now (book .entry)) place (now (totals .entry)) ⌝ }
 {
+    if totals.len() != 9 {
+        if yearbook::bad_book(book) {
+            return answer(Outcome::Refused(Refusal::BadYearBook));
+        }
+        return answer(Outcome::Refused(Refusal::BufferLength));
+    }
     let t = yearbook::year(book, place);
     let outcome = t.outcome;
     let sums = t.sums;
     let Outcome::Accepted = outcome else {
         return answer(outcome);
     };
-    if totals.len() != 9 {
-        return answer(Outcome::Refused(Refusal::BufferLength));
-    }
     put_totals(t.k, &sums, totals);
     0
 }

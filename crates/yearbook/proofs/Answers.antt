@@ -15,7 +15,7 @@ use Rattle.sheet.specs.Check.{sheetRules, checked}
 use Rattle.month.specs.Month.{Month, Settled, monthRules, settleRules, settledSheet}
 use Rattle.month.proofs.Laws.{settled-month}
 use Rattle.yearbook.specs.Calls.{withdraw, year, accepted, refused, totals}
-use Rattle.yearbook.specs.LentBook.{bookLength, unitCountIn, marked, badBook, otherBuilding, sheetCallRules, putSheet, clearMonth, freshBook, openAnswer, bookOpened, postAnswer, bookPosted, replaceAnswer, bookReplaced, withdrawAnswer, bookWithdrawn, yearOutcome, marksIn, yearSums, yearAnswer, lentReply, lentAfter, Opens, Answered, refusedTotals, totalsBy, Tells}
+use Rattle.yearbook.specs.LentBook.{bookLength, unitCountIn, marked, badBook, otherBuilding, sheetCallRules, putSheet, clearMonth, freshBook, openAnswer, bookOpened, postAnswer, bookPosted, replaceAnswer, bookReplaced, withdrawAnswer, bookWithdrawn, yearRules, yearOutcome, marksIn, yearSums, yearAnswer, lentReply, lentAfter, Opens, Answered, refusedTotals, totalsBy, Tells}
 use Rattle.yearbook.specs.Inner.Bring.{bringCall, wrongMonth}
 
 -- ---- rules one after the other
@@ -131,28 +131,28 @@ module _ (b : List ℕ) (month : ℕ) where
 -- ---- year
 module _ (b : List ℕ) (place : ℕ) where
   pub year-15 : badBook b ≡ true → Answered b (year place) (refused BadYearBook) b
-  unfolding lentReply lentAfter yearAnswer yearOutcome firstRefusal
+  unfolding lentReply lentAfter yearAnswer yearOutcome yearRules firstRefusal
   year-15 e = record { reply = rw e; after = refl }
 
   module _ (sound : badBook b ≡ false) where
     pub year-18 : unitCountIn b ≤ place → Answered b (year place) (refused NoSuchUnit) b
-    unfolding lentReply lentAfter yearAnswer yearOutcome firstRefusal
+    unfolding lentReply lentAfter yearAnswer yearOutcome yearRules firstRefusal
     year-18 h = record { reply = rw (sound, le-ltb place (unitCountIn b) h); after = refl }
 
     pub year-totals : place < unitCountIn b → Answered b (year place) (totals (marksIn b) (yearSums b place)) b
-    unfolding lentReply lentAfter yearAnswer yearOutcome firstRefusal
+    unfolding lentReply lentAfter yearAnswer yearOutcome yearRules firstRefusal
     year-totals h = record { reply = rw (sound, lt-ltb place (unitCountIn b) h); after = refl }
 
   -- the reply by value
   pub tells-15 : badBook b ≡ true → Tells b place (refusedTotals BadYearBook)
-  unfolding yearOutcome firstRefusal
+  unfolding yearOutcome yearRules firstRefusal
   tells-15 e = record { answered = year-15 e; whole = rw e }
 
   module _ (sound : badBook b ≡ false) where
     pub tells-18 : unitCountIn b ≤ place → Tells b place (refusedTotals NoSuchUnit)
-    unfolding yearOutcome firstRefusal
+    unfolding yearOutcome yearRules firstRefusal
     tells-18 h = record { answered = year-18 sound h; whole = rw (sound, le-ltb place (unitCountIn b) h) }
 
     pub tells-totals : place < unitCountIn b → Tells b place (totalsBy Accepted (marksIn b) (yearSums b place))
-    unfolding yearOutcome firstRefusal
+    unfolding yearOutcome yearRules firstRefusal
     tells-totals h = record { answered = year-totals sound h; whole = rw (sound, lt-ltb place (unitCountIn b) h) }

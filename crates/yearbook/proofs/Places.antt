@@ -16,7 +16,7 @@ use Rattle.sheet.proofs.Places.{place-rule, sheet-place}
 use Rattle.month.specs.Month.{monthRules, settleRules}
 use Rattle.month.proofs.Places.{month-place}
 use Rattle.yearbook.specs.Calls.{replyOf}
-use Rattle.yearbook.specs.LentBook.{unitCountIn, placeOfMonth, marked, wrongSize, badBook, otherBuilding, sheetCallRules, openAnswer, postAnswer, replaceAnswer, withdrawAnswer, yearOutcome}
+use Rattle.yearbook.specs.LentBook.{unitCountIn, placeOfMonth, marked, wrongSize, badBook, otherBuilding, sheetCallRules, openAnswer, postAnswer, replaceAnswer, withdrawAnswer, yearRules, yearOutcome}
 
 nothing : PlaceBelow 160 (firstRefusal [])
 unfolding firstRefusal
@@ -55,7 +55,7 @@ withdraw-place b month =
     (λ _. place-rule 160 (ltb 12 month) MonthState _ (omega arith) (λ _. place-rule 160 (not (marked b (month - 1))) MonthState [] (omega arith) (λ _. nothing))))
 
 pub year-place : (b : List ℕ) (place : ℕ) → PlaceBelow 160 (yearOutcome b place)
-unfolding yearOutcome
+unfolding yearOutcome yearRules
 year-place b place =
     place-rule 160 (badBook b) BadYearBook _ (omega arith) (λ _. place-rule 160 (not (ltb place (unitCountIn b))) NoSuchUnit [] (omega arith) (λ _. nothing))
 

@@ -135,8 +135,11 @@ unfoldable pub bookWithdrawn : List ℕ → ℕ → List ℕ
 bookWithdrawn b month = afterwards (withdrawAnswer b month) b (clearMonth b month)
 
 -- year: 15, 18; changes nothing
+unfoldable pub yearRules : List ℕ → ℕ → List Rule
+yearRules b place = (badBook b ⇒ BadYearBook) ∷ (not (ltb place (unitCountIn b)) ⇒ NoSuchUnit) ∷ []
+
 unfoldable pub yearOutcome : List ℕ → ℕ → Outcome
-yearOutcome b place = firstRefusal ((badBook b ⇒ BadYearBook) ∷ (not (ltb place (unitCountIn b)) ⇒ NoSuchUnit) ∷ [])
+yearOutcome b place = firstRefusal (yearRules b place)
 
 -- a number of a month by its mark
 abbrev pub ifMarked : (mark x : ℕ) → ℕ

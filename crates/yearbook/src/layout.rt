@@ -25,7 +25,7 @@ pub(crate) const BLOCKS: usize = 197;
 pub(crate) const BLOCK_LENGTH: usize = 1280;
 
 // Not 15,557 numbers, n over 160 or a mark over 1.
-pub(crate) fn bad_book(book: &[u32]) -> bool
+pub fn bad_book(book: &[u32]) -> bool
     ensures { λ r. ⌜ r ≡ badBook (now (book .entry)) ⌝ }
 {
     if book.len() != BOOK_LENGTH {

@@ -8,6 +8,7 @@ mod withdrawal;
 
 pub use bring::post;
 pub use bring::replace;
+pub use layout::bad_book;
 pub use opening::open;
 pub use totals::YearTotals;
 pub use totals::year;
