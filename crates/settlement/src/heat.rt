@@ -6,15 +6,18 @@ ghost use lib.ListN.{length, take, replicate};
 ghost use Rattle.sheet.specs.Tests.{if_then_else_};
 ghost use Rattle.sheet.specs.Layout.{sheetOf};
 ghost use Rattle.sheet.specs.Inner.Fits.{Fits};
+ghost use Rattle.sheet.specs.WattHours.{amountOf};
 ghost use Rattle.month.specs.Weights.{unreadUnits, allMetered};
-ghost use Rattle.month.specs.Steps.{wholeWh, heatParts, poolShares, inUnitOrder, heat, commonHeat};
+ghost use Rattle.month.specs.Steps.{wholeWh, poolShares, inUnitOrder, heat, commonHeat};
 ghost use Rattle.month.specs.Month.{hotWaterWh};
+ghost use Rattle.weights.specs.Inner.Metered.{meteredHeat};
 ghost use Rattle.weights.specs.Inner.Ready.{Accepts};
-ghost use Rattle.settlement.specs.Inner.Heat.{UnitsHeat, ByReadings};
+ghost use Rattle.settlement.specs.Inner.Heat.{HeatParts, UnitsHeat, ByReadings};
 use crate::divide::Parts;
 use crate::divide::divide_by;
 use crate::divide::share;
 use crate::divide::split;
+use sheet::Sum;
 use sheet::header;
 use sheet::rows;
 use weights::Totals;
@@ -26,16 +29,16 @@ use weights::head;
 use weights::wide;
 
 // Step 2.
-fn heat_parts(s: &[u8], n: usize, t: Totals, h: u64) -> Parts
-    requires { ⌜ Accepts (now s) n t × (h ≡ hotWaterWh (sheetOf (now s))) ⌝ }
-    ensures { λ r. ⌜ r .units ≡ heatParts wholeWh (sheetOf (now (s .entry))) .ofUnits ⌝ }
-    ensures { λ r. ⌜ r .common ≡ heatParts wholeWh (sheetOf (now (s .entry))) .common ⌝ }
+pub(crate) fn heat_parts(s: &[u8], n: usize, t: Totals, h: u64, c: Sum) -> Parts
+    requires { ⌜ Accepts (now s) n t × (h ≡ hotWaterWh (sheetOf (now s))) × (c ≡ amountOf (meteredHeat (sheetOf (now s)))) ⌝ }
+    ensures { λ r. ⌜ HeatParts (sheetOf (now (s .entry))) r ⌝ }
 {
     let space_heat = head(s, header::SHARED_METER) - h;
     if all_metered(s, n, t) {
+        let metered = Sum::number(c);
         return Parts {
-            units: t.readings,
-            common: space_heat - t.readings,
+            units: metered,
+            common: space_heat - metered,
         };
     }
     split(head(s, header::COMMON_HEAT_PERCENT), space_heat)
@@ -118,20 +121,19 @@ fn unit_heat(s: &[u8], n: usize, t: Totals, total: u64, out: &mut [u32])
     heat_by_readings(s, n, t, total, out);
 }
 
-// Steps 2 to 5: each unit's heat, and its part of the common heat.
+// Steps 3 to 5: each unit's heat, and its part of the common heat.
 pub(crate) fn heat_shares(
     s: &[u8],
     n: usize,
     t: Totals,
-    h: u64,
+    parts: Parts,
     units: &mut [u32],
     common: &mut [u32],
 )
-    requires { ⌜ Accepts (now s) n t × (h ≡ hotWaterWh (sheetOf (now s))) × (now units ≡ replicate 160 0) × (now common ≡ replicate 160 0) ⌝ }
+    requires { ⌜ Accepts (now s) n t × HeatParts (sheetOf (now s)) parts × (now units ≡ replicate 160 0) × (now common ≡ replicate 160 0) ⌝ }
     ensures { λ _. ⌜ take n (now (units .exit)) ≡ heat wholeWh (sheetOf (now (s .entry))) ⌝ }
     ensures { λ _. ⌜ take n (now (common .exit)) ≡ commonHeat wholeWh (sheetOf (now (s .entry))) ⌝ }
 {
-    let parts = heat_parts(s, n, t, h);
     unit_heat(s, n, t, parts.units, units);
     divide_by(s, n, By::Area, t, parts.common, common);
 }

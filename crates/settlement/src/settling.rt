@@ -6,30 +6,36 @@ ghost use Rattle.sheet.specs.declared.refusal.Outcome.the-variants.{Accepted};
 ghost use Rattle.sheet.specs.Layout.{sheetOf};
 ghost use Rattle.sheet.specs.Check.{checked};
 ghost use Rattle.month.specs.Month.{hotWaterWh, statementOf};
+ghost use Rattle.sheet.specs.WattHours.{amountOf};
+ghost use Rattle.weights.specs.Inner.Metered.{meteredHeat};
 ghost use Rattle.weights.specs.Inner.Ready.{Accepts};
 ghost use Rattle.settlement.specs.Settle.{settleAnswer, statementAfter};
 use crate::bill;
+use crate::heat::heat_parts;
 use crate::heat::heat_shares;
 use crate::layout::put_energies;
 use crate::water::water_shares;
 use sheet::Outcome;
 use sheet::Refusal;
+use sheet::Sum;
 use sheet::header;
 use weights::Totals;
 use weights::hot_water::hot_water;
+use weights::metered_heat;
 use weights::refusal;
 use weights::sum_rows;
 
 // Steps 2 to 7 of a sheet that is not refused, into a list of 8n numbers.
-fn write_statement(s: &[u8], n: usize, t: Totals, h: u64, statement: &mut [u32])
-    requires { ⌜ Accepts (now s) n t × (h ≡ hotWaterWh (sheetOf (now s))) × (length (now statement) ≡ 8 * n) ⌝ }
+fn write_statement(s: &[u8], n: usize, t: Totals, h: u64, c: Sum, statement: &mut [u32])
+    requires { ⌜ Accepts (now s) n t × (h ≡ hotWaterWh (sheetOf (now s))) × (c ≡ amountOf (meteredHeat (sheetOf (now s)))) × (length (now statement) ≡ 8 * n) ⌝ }
     ensures { λ r. ⌜ now (statement .exit) ≡ statementOf (sheetOf (now (s .entry))) ⌝ }
 {
     let mut units_heat = [0u32; 160];
     let mut common_heat = [0u32; 160];
     let mut units_water = [0u32; 160];
     let mut common_water = [0u32; 160];
-    heat_shares(s, n, t, h, &mut units_heat, &mut common_heat);
+    let parts = heat_parts(s, n, t, h, c);
+    heat_shares(s, n, t, parts, &mut units_heat, &mut common_heat);
     water_shares(s, n, t, h, &mut units_water, &mut common_water);
     put_energies(
         n,
@@ -51,14 +57,15 @@ pub fn settle_checked(s: &[u8], statement: &mut [u32]) -> Outcome
     let n = header::header_field(s, header::UNIT_COUNT) as usize;
     let t = sum_rows(s, n);
     let h = hot_water(s);
-    let outcome = refusal(s, n, t, h);
+    let c = metered_heat(s, n, t);
+    let outcome = refusal(s, n, t, h, c);
     let Outcome::Accepted = outcome else {
         return outcome;
     };
     if statement.len() != 8 * n {
         return Outcome::Refused(Refusal::BufferLength);
     }
-    write_statement(s, n, t, h, statement);
+    write_statement(s, n, t, h, c, statement);
     Outcome::Accepted
 }
 

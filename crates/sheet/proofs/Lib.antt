@@ -7,3 +7,4 @@ mod Fields
 mod View
 mod Walk
 pub mod Places
+pub mod Amounts

@@ -5,18 +5,20 @@ use mathlib.Core.Logic.{inl, inr}
 use mathlib.Core.List.{List, [], _∷_, _++_, map, map-append}
 use Prim.Native.Nat.{ℕ, suc, compare·suc-suc, _+_, _≤_}
 use native.Mathlib.Omega.{arith}
-use borrow.Author.Tests.{ne-eqb, leb-false, le-leb, lt-leb}
+use borrow.Author.Tests.{ne-eqb, le-ltb}
 use lib.Dec.{leb, ltb, eqb}
 use lib.ListN.{length}
 use Rattle.apportion.specs.Shares.{sum}
 use Rattle.sheet.specs.Tests.{any, all}
 use Rattle.sheet.specs.Layout.{UnitRow, Sheet}
 use Rattle.sheet.specs.WattHours.{highestWh, amountOf}
-use Rattle.month.specs.Weights.{those, sumOf, isRead}
+use Rattle.sheet.specs.Inner.Sums.{pastSum}
+use Rattle.sheet.proofs.Amounts.{past-amount}
+use Rattle.month.specs.Weights.{those, sumOf, isRead, allMetered, meteredSum}
 use Rattle.month.specs.Month.{zeroWaterDivisor, zeroDivisor, hotWaterWh}
 use Rattle.month.proofs.Lists.{decided, sum-append}
 use Rattle.month.proofs.Bounds.{those-fewer}
-use Rattle.weights.specs.Inner.Amount.{plusSum, pastSum}
+use Rattle.weights.specs.Inner.Metered.{meteredHeat}
 use Rattle.weights.specs.Inner.Totals.{TotalsOf}
 use Rattle.weights.specs.declared.totals.Totals.{Totals}
 
@@ -48,11 +50,9 @@ all-read (u ∷ us) = elim (decided (isRead u)) [
 pub sum-next : (f : UnitRow → ℕ) (us : List UnitRow) (u : UnitRow) → sumOf f (us ++ (u ∷ [])) ≡ sumOf f us + f u
 sum-next f us u = ap sum (map-append f us (u ∷ [])) ∙ sum-append (map f us) (f u ∷ []) ∙ omega arith
 
-pub amount-next : (x r : ℕ) → plusSum (amountOf x) r ≡ amountOf (x + r)
-amount-next x r = elim (decided (leb x highestWh)) [
-  | inl e ↦ rw e
-  | inr e ↦ rw (e, lt-leb (x + r) highestWh (omega (arith, leb-false x highestWh e)))
+-- C past a limit
+pub past-metered : (s : Sheet) (limit : ℕ) → meteredSum s ≤ highestWh → pastSum (amountOf (meteredHeat s)) limit ≡ (allMetered s && ltb limit (meteredSum s))
+past-metered s limit h = elim (decided (allMetered s)) [
+  | inl e ↦ rw e (past-amount (meteredSum s) limit h)
+  | inr e ↦ rw e (le-ltb limit 0 (omega arith))
 ]
-
-pub past-amount : (x limit : ℕ) → x ≤ highestWh → pastSum (amountOf x) limit ≡ ltb limit x
-past-amount x limit h = rw (le-leb x highestWh h)

@@ -2,13 +2,15 @@
 mod fields;
 pub mod gather;
 pub mod hot_water;
+mod metered;
 mod refusals;
 mod totals;
 mod units;
 
 pub use fields::head;
 pub use fields::wide;
-pub use refusals::all_metered;
+pub use metered::all_metered;
+pub use metered::metered_heat;
 pub use refusals::refusal;
 pub use totals::Totals;
 pub use totals::sum_rows;

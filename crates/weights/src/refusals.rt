@@ -11,19 +11,17 @@ ghost use Rattle.sheet.specs.Layout.{sheetOf};
 ghost use Rattle.sheet.specs.Refusals.{firstRefusal};
 ghost use Rattle.sheet.specs.Inner.Fits.{Fits};
 ghost use Rattle.sheet.specs.WattHours.{amountOf};
-ghost use Rattle.weights.specs.Inner.Amount.{plusSum, pastSum};
+ghost use Rattle.weights.specs.Inner.Metered.{meteredHeat};
 ghost use Rattle.month.specs.Weights.{readUnits, allMetered, meteredSum, hasPool, totalArea, unreadWeights};
 ghost use Rattle.month.specs.Month.{hotWaterWh, spaceHeatWh, zeroWaterDivisor, zeroDivisor, monthRules};
 ghost use Rattle.weights.specs.Inner.Ready.{Ready};
 use crate::fields::head;
-use crate::fields::wide;
+use crate::metered::all_metered;
 use crate::totals::Totals;
 use sheet::Outcome;
 use sheet::Refusal;
 use sheet::Sum;
-use sheet::Wh;
 use sheet::header;
-use sheet::rows;
 
 // Something is needed, and there is none.
 fn lacks(need: u64, whole: u64) -> bool
@@ -86,55 +84,12 @@ fn no_readings(s: &[u8], t: Totals) -> bool
     3 <= head(s, header::MODEL) && t.read == 0
 }
 
-// Step 2's exception: model 5 with every status 0.
-pub fn all_metered(s: &[u8], n: usize, t: Totals) -> bool
-    requires { ⌜ Ready (now s) t × (n ≡ sheetOf (now s) .unitCount) ⌝ }
-    ensures { λ r. ⌜ r ≡ allMetered (sheetOf (now (s .entry))) ⌝ }
-{
-    head(s, header::MODEL) == 5 && t.read == n as u64
-}
-
-// A sum once over stays over.
-fn plus_reading(sum: Sum, reading: u32) -> Sum
-    ensures { λ r. ⌜ r ≡ plusSum sum reading ⌝ }
-{
-    match sum {
-        Sum::Amount(a) => Wh::plus(a, Wh(reading)),
-        Sum::Over => Sum::Over,
-    }
-}
-
-// C.
-fn metered_sum(s: &[u8], n: usize) -> Sum
-    requires { ⌜ Fits 32 (now s) × (n ≡ sheetOf (now s) .unitCount) ⌝ }
-    ensures { λ r. ⌜ r ≡ amountOf (meteredSum (sheetOf (now (s .entry)))) ⌝ }
-{
-    let mut sum = Sum::Amount(Wh::ZERO);
-    for i in 0..n {
-        sum = plus_reading(sum, rows::unit_field(s, i, rows::READING));
-    }
-    sum
-}
-
-// Over is past every limit.
-fn past(sum: Sum, limit: u64) -> bool
-    ensures { λ r. ⌜ r ≡ pastSum sum limit ⌝ }
-{
-    match sum {
-        Sum::Amount(a) => limit < wide(a.0),
-        Sum::Over => true,
-    }
-}
-
 // 11.
-fn meters_exceed(s: &[u8], n: usize, t: Totals, h: u64) -> bool
-    requires { ⌜ Ready (now s) t × (n ≡ sheetOf (now s) .unitCount) × (h ≡ hotWaterWh (sheetOf (now s))) × (h ≤ sheetOf (now s) .sharedMeter) ⌝ }
+fn meters_exceed(s: &[u8], h: u64, c: Sum) -> bool
+    requires { ⌜ Fits 32 (now s) × (h ≡ hotWaterWh (sheetOf (now s))) × (h ≤ sheetOf (now s) .sharedMeter) × (c ≡ amountOf (meteredHeat (sheetOf (now s)))) ⌝ }
     ensures { λ r. ⌜ r ≡ (allMetered (sheetOf (now (s .entry))) && ltb (spaceHeatWh (sheetOf (now (s .entry)))) (meteredSum (sheetOf (now (s .entry))))) ⌝ }
 {
-    if !all_metered(s, n, t) {
-        return false;
-    }
-    past(metered_sum(s, n), head(s, header::SHARED_METER) - h)
+    Sum::past(c, head(s, header::SHARED_METER) - h)
 }
 
 // 12.
@@ -152,8 +107,8 @@ fn pool_exceeded(s: &[u8], n: usize, t: Totals) -> bool
 }
 
 // 8 to 12, in this order.
-pub fn refusal(s: &[u8], n: usize, t: Totals, h: u64) -> Outcome
-    requires { ⌜ Ready (now s) t × (n ≡ sheetOf (now s) .unitCount) × (h ≡ hotWaterWh (sheetOf (now s))) ⌝ }
+pub fn refusal(s: &[u8], n: usize, t: Totals, h: u64, c: Sum) -> Outcome
+    requires { ⌜ Ready (now s) t × (n ≡ sheetOf (now s) .unitCount) × (h ≡ hotWaterWh (sheetOf (now s))) × (c ≡ amountOf (meteredHeat (sheetOf (now s)))) ⌝ }
     ensures { λ r. ⌜ r ≡ firstRefusal (monthRules (sheetOf (now (s .entry)))) ⌝ }
 {
     if head(s, header::SHARED_METER) < h {
@@ -165,7 +120,7 @@ pub fn refusal(s: &[u8], n: usize, t: Totals, h: u64) -> Outcome
     if no_readings(s, t) {
         return Outcome::Refused(Refusal::NoReadings);
     }
-    if meters_exceed(s, n, t, h) {
+    if meters_exceed(s, h, c) {
         return Outcome::Refused(Refusal::MetersExceedHeat);
     }
     if pool_exceeded(s, n, t) {

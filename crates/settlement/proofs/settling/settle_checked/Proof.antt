@@ -21,6 +21,9 @@ sum-rows-requires c κs = (fits 32 _ (c .before .before .before .pre), c .header
 hot-water-requires : tie.Need-hot-water-requires
 hot-water-requires c κs = search needs
 
+metered-heat-requires : tie.Need-metered-heat-requires
+metered-heat-requires c κs = search needs
+
 refusal-requires : tie.Need-refusal-requires
 refusal-requires c κs = search needs
 
@@ -32,7 +35,7 @@ enum-told-2 c = search needs
 
 returns : tie.Need-returns
 returns c =
-    let st = c .before .before .before .before .before .before .before .before in
+    let st = c .before .before .before .before .before .before .before .before .before in
     let o = c .before .before .refusal in
     refused-month (st .args .s .now) (st .args .statement .now) (st .pre) (o .result) (o .ensures) _ (c .enum-told2 .given .1)
 
@@ -41,26 +44,26 @@ mul-if1 c = search needs
 
 returns-2 : tie.Need-returns-2
 returns-2 c =
-    let st = c .before .before .before .before .before .before .before .before .before in
+    let st = c .before .before .before .before .before .before .before .before .before .before in
     let o = c .before .before .before .refusal in
-    wrong-length (st .args .s .now) (st .args .statement .now) (st .pre) (o .result) (o .ensures) (c .before .enum-told .given .1) _ (c .before .before .before .before .before .before .header-field .ensures) (c .if1 .taken)
+    wrong-length (st .args .s .now) (st .args .statement .now) (st .pre) (o .result) (o .ensures) (c .before .enum-told .given .1) _ (c .before .before .before .before .before .before .before .header-field .ensures) (c .if1 .taken)
 
 write-statement-requires : tie.Need-write-statement-requires
 write-statement-requires c κs =
-    let st = c .before .before .before .before .before .before .before .before .before .before in
+    let st = c .before .before .before .before .before .before .before .before .before .before .before in
     let s = sheetOf (st .args .s .now) in
     let f = fits-checked (fits 32 _ (st .pre)) in
-    (record { ready = c .before .before .before .before .before .before .sum-rows .ensures; count = c .before .before .before .before .before .before .before .header-field .ensures; accepted = month-accepted s f (sym (c .before .before .before .before .refusal .ensures) ∙ c .before .before .enum-told .given .1) }, c .before .before .before .before .before .hot-water .ensures, c .before .if1 .left)
+    (record { ready = c .before .before .before .before .before .before .before .sum-rows .ensures; count = c .before .before .before .before .before .before .before .before .header-field .ensures; accepted = month-accepted s f (sym (c .before .before .before .before .refusal .ensures) ∙ c .before .before .enum-told .given .1) }, c .before .before .before .before .before .before .hot-water .ensures, c .before .before .before .before .before .metered-heat .ensures, c .before .if1 .left)
 
 same-length : tie.Need-same-length
 same-length c = search needs
 
 returns-3 : tie.Need-returns-3
 returns-3 c =
-    let st = c .before .before .before .before .before .before .before .before .before .before .before .before .before in
+    let st = c .before .before .before .before .before .before .before .before .before .before .before .before .before .before in
     let o = c .before .before .before .before .before .before .before .refusal in
     let w = c .before .before .write-statement in
-    written (st .args .s .now) (st .args .statement .now) (st .pre) (o .result) (o .ensures) (c .before .before .before .before .before .enum-told .given .1) _ (c .before .before .before .before .before .before .before .before .before .before .header-field .ensures) (c .before .before .before .before .if1 .left) (w .last .1 .1 .1 .1 .0) (w .ensures)
+    written (st .args .s .now) (st .args .statement .now) (st .pre) (o .result) (o .ensures) (c .before .before .before .before .before .enum-told .given .1) _ (c .before .before .before .before .before .before .before .before .before .before .before .header-field .ensures) (c .before .before .before .before .if1 .left) (w .last .1 .1 .1 .1 .1 .0) (w .ensures)
 
 pub settle-checked-spec : {M : Type 1} → statement M
 settle-checked-spec =
@@ -70,6 +73,7 @@ settle-checked-spec =
     cast-n
     sum-rows-requires
     hot-water-requires
+    metered-heat-requires
     refusal-requires
     enum-told
     enum-told-2

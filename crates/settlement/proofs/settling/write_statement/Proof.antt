@@ -10,6 +10,9 @@ use borrow.Author.Needs.{needs}
 use Rattle.settlement.proofs.settling.write_statement.Statement.{statement}
 use Rattle.settlement.proofs.settling.write_statement.Tie as tie
 
+heat-parts-requires : tie.Need-heat-parts-requires
+heat-parts-requires c κs = search needs
+
 slice-aggregate-heat-shares : tie.Need-slice-aggregate-heat-shares
 slice-aggregate-heat-shares c = search needs
 
@@ -41,11 +44,15 @@ slice-aggregate-put-energies-4 : tie.Need-slice-aggregate-put-energies-4
 slice-aggregate-put-energies-4 c = search needs
 
 put-energies-requires : tie.Need-put-energies-requires
-put-energies-requires c κs = search needs
+put-energies-requires c κs =
+    let p = c .before .before .before .before .before .before .before .before .before .before .before .before .before .before .before .before .before .before .pre in
+    let h = c .before .before .before .before .before .before .before .before .before .before .before .before .heat-shares .kept in
+    let w = c .before .before .before .before .before .before .before .water-shares .kept in
+    ((omega (arith, p .0 .count, p .0 .ready .fits .header .unitCount), omega (arith, h), omega (arith, h), omega (arith, w), omega (arith, w)), p .3)
 
 write-costs-requires : tie.Need-write-costs-requires
 write-costs-requires c κs =
-    let st = c .before .before .before .before .before .before .before .before .before .before .before .before .before .before .before .before .before .before .before .before .before in
+    let st = c .before .before .before .before .before .before .before .before .before .before .before .before .before .before .before .before .before .before .before .before .before .before in
     let p = st .pre in
     let s = sheetOf (st .args .s .now) in
     let h = c .before .before .before .before .before .before .before .before .before .before .before .before .before .before .before .before .heat-shares .ensures in
@@ -56,7 +63,7 @@ write-costs-requires c κs =
       fits = p .0 .ready .fits;
       accepted = p .0 .accepted;
       count = p .0 .count;
-      room = omega (arith, e .kept, p .2);
+      room = omega (arith, e .kept, p .3);
       energy = λ k l. e .ensures .put k l ∙ ap (λ (xs : List ℕ). getD xs k 0) (energies-by-unit s _ _ _ _ count (h .0) (h .1) (w .0) (w .1));
     }
 
@@ -70,6 +77,7 @@ pub write-statement-spec : {M : Type 1} → statement M
 write-statement-spec =
     tie.close
     (tie.spec
+    heat-parts-requires
     slice-aggregate-heat-shares
     slice-aggregate-heat-shares-2
     heat-shares-requires

@@ -6,8 +6,8 @@ use lib.Dec.{eqb}
 use Rattle.sheet.specs.Layout.{sheetOf}
 use Rattle.month.specs.Weights.{allMetered}
 use Rattle.weights.proofs.Tests.{all-read}
-use Rattle.weights.proofs.refusals.all_metered.Statement.{statement}
-use Rattle.weights.proofs.refusals.all_metered.Tie as tie
+use Rattle.weights.proofs.metered.all_metered.Statement.{statement}
+use Rattle.weights.proofs.metered.all_metered.Tie as tie
 
 head-requires : tie.Need-head-requires
 head-requires c κs = search needs

@@ -11,10 +11,11 @@ use Rattle.sheet.specs.Inner.Fields.{unitOf}
 use Rattle.sheet.specs.WattHours.{amountOf}
 use Rattle.sheet.proofs.Units.{units-count, units-next}
 use Rattle.month.specs.Weights.{sumOf, meteredSum}
-use Rattle.weights.specs.Inner.Amount.{plusSum}
-use Rattle.weights.proofs.Tests.{sum-next, amount-next}
-use Rattle.weights.proofs.refusals.metered_sum.Statement.{statement}
-use Rattle.weights.proofs.refusals.metered_sum.Tie as tie
+use Rattle.sheet.specs.Inner.Sums.{plusSum}
+use Rattle.sheet.proofs.Amounts.{plus-amounts}
+use Rattle.weights.proofs.Tests.{sum-next}
+use Rattle.weights.proofs.metered.metered_sum.Statement.{statement}
+use Rattle.weights.proofs.metered.metered_sum.Tie as tie
 
 abbrev readings : List UnitRow → ℕ
 readings us = sumOf (λ u. u .reading) us
@@ -28,11 +29,14 @@ abbrev μ-loop : tie.MeasureT-loop
 loop-holds : tie.Need-loop-holds Inv-loop μ-loop
 loop-holds c = (omega arith, refl)
 
-unit-field-requires : tie.Need-unit-field-requires Inv-loop μ-loop
-unit-field-requires c κs = let p = c .before .before .before .pre in (omega arith, omega (arith, p .0 .byteCount))
+field-requires : tie.Need-field-requires Inv-loop μ-loop
+field-requires c κs = let p = c .before .before .before .pre in record { fits = p .0; inside = omega (arith, p .1) }
 
-plus-reading-requires : tie.Need-plus-reading-requires Inv-loop μ-loop
-plus-reading-requires c κs = search needs
+of-requires : tie.Need-of-requires Inv-loop μ-loop
+of-requires c κs = search needs
+
+plus-requires : tie.Need-plus-requires Inv-loop μ-loop
+plus-requires c κs = search needs
 
 add-i : tie.Need-add-i Inv-loop μ-loop
 add-i c = omega arith
@@ -42,14 +46,15 @@ loop-less c = omega arith
 
 loop-again : tie.Need-loop-again Inv-loop μ-loop
 loop-again c =
-    let st = c .before .before .before .before .before in
+    let st = c .before .before .before .before .before .before in
     let bytes = st .args .s .now in
-    let l = c .before .before .before .loop in
+    let l = c .before .before .before .before .loop in
     let us = take (l .i) (sheetOf bytes .units) in
     let u = unitOf (sheetOf bytes) (l .i) in
-    let h : l .i < sheetOf bytes .unitCount = omega (arith, st .pre .1) in (
+    let h : l .i < sheetOf bytes .unitCount = omega (arith, st .pre .1) in
+    let b = c .before .of .ensures ∙ ap amountOf (c .before .before .field .ensures) in (
       omega arith,
-      c .plus-reading .ensures ∙ ap₂ plusSum (l .inv .1) (c .before .unit-field .ensures) ∙ amount-next (readings us) (u .reading)
+      c .plus .ensures ∙ ap₂ plusSum (l .inv .1) b ∙ plus-amounts (readings us) (u .reading)
           ∙ ap amountOf (sym (ap readings (units-next bytes (l .i) h) ∙ sum-next (λ u. u .reading) us u)),
     )
 
@@ -68,8 +73,9 @@ metered-sum-spec =
     Inv-loop
     μ-loop
     loop-holds
-    unit-field-requires
-    plus-reading-requires
+    field-requires
+    of-requires
+    plus-requires
     add-i
     loop-less
     loop-again
