@@ -3,7 +3,6 @@ pub mod Dividing
 pub mod Order
 pub mod Pool
 pub mod Writing
-pub mod Halves
 pub mod Parts
 pub mod Answers
 pub mod Places

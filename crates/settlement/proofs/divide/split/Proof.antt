@@ -1,7 +1,7 @@
 use mathlib.Core.Path.{sym}
 use native.Mathlib.Omega.{arith}
 use Rattle.month.specs.Steps.{splitBy}
-use Rattle.settlement.proofs.Halves.{both, half-up-le, first-part, second-part}
+use Rattle.apportion.proofs.Halves.{both, half-up-le, first-part, second-part}
 use Rattle.settlement.proofs.divide.split.Statement.{statement}
 use Rattle.settlement.proofs.divide.split.Tie as tie
 
