@@ -52,3 +52,7 @@ pub record PartOf (r s : RefT (List ℕ)) (a k : ℕ) : Type 0 where
   pub block : ptr r .0 ≡ ptr s .0
   pub offset : ptr r .1 ≡ a + ptr s .1
   pub bytes : now r ≡ take k (drop a (now s))
+
+-- r is the sheet as the very part of the record s that holds it; on a refusal the empty part at the record's start
+abbrev pub SheetPart : (r s : RefT (List ℕ)) → Type 0
+SheetPart r s = let o = readOutcome (now s) in PartOf r s (startOf o) (countOf o (now s))

@@ -3,6 +3,8 @@ mod head;
 mod reader;
 mod writer;
 
+pub use reader::Reading;
 pub use reader::check;
 pub use reader::read;
+pub use reader::sheet_part;
 pub use writer::write;

@@ -7,7 +7,7 @@ ghost use Rattle.sheet.specs.declared.refusal.Outcome.the-variants.{Accepted};
 ghost use Rattle.sheet.specs.Refusals.{firstRefusal};
 ghost use Rattle.sheet.specs.Check.{checked, sameList};
 ghost use Rattle.archive.specs.Record.{archiveHead};
-ghost use Rattle.archive.specs.Reader.{bodyRules, readOutcome, startOf, countOf, PartOf};
+ghost use Rattle.archive.specs.Reader.{bodyRules, readOutcome, SheetPart};
 ghost use Rattle.archive.specs.Inner.Lent.{Counted, WithRoom};
 use crate::head::HEAD;
 use sheet::Outcome;
@@ -103,14 +103,31 @@ pub fn check(bytes: &[u8]) -> Outcome
     check_statement(body)
 }
 
-// The sheet as the very part of the record that holds it; on a refusal the empty part at the record's start.
-pub fn read<'a>(bytes: &'a [u8]) -> &'a [u8]
-    ensures { λ r. ⌜ PartOf r (bytes .entry) (startOf (readOutcome (now (bytes .entry)))) (countOf (readOutcome (now (bytes .entry))) (now (bytes .entry))) ⌝ }
+// The reader's answer: number and place by the outcome, and the sheet as the very part of the record that holds it.
+pub struct Reading<'a> {
+    pub outcome: Outcome,
+    pub sheet: &'a [u8],
+}
+
+// The sheet's part of a record by the check's outcome; on a refusal the empty part at the record's start.
+pub fn sheet_part<'a>(bytes: &'a [u8], outcome: Outcome) -> &'a [u8]
+    requires { ⌜ outcome ≡ readOutcome (now bytes) ⌝ }
+    ensures { λ r. ⌜ SheetPart r (bytes .entry) ⌝ }
 {
-    let Outcome::Accepted = check(bytes) else {
+    let Outcome::Accepted = outcome else {
         return &bytes[0..0];
     };
     let n = header::header_field(&bytes[8..], header::UNIT_COUNT) as usize;
     let end = 56 + 32 * n;
     &bytes[8..end]
+}
+
+// Any bytes: the check's outcome and its part, at one settling.
+pub fn read<'a>(bytes: &'a [u8]) -> Reading<'a>
+    ensures { λ r. ⌜ r .outcome ≡ readOutcome (now (bytes .entry)) ⌝ }
+    ensures { λ r. ⌜ SheetPart (r .sheet) (bytes .entry) ⌝ }
+{
+    let outcome = check(bytes);
+    let sheet = sheet_part(bytes, outcome);
+    Reading { outcome, sheet }
 }

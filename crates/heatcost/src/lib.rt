@@ -53,7 +53,8 @@ pub extern "C" fn heatcost_read_record(bytes: &[u8]) -> u32
 pub extern "C" fn heatcost_record_sheet_len(bytes: &[u8]) -> u64
     ensures { λ r. ⌜ r ≡ countOf (readOutcome (now (bytes .entry))) (now (bytes .entry)) ⌝ }
 {
-    let part = archive::read(bytes);
+    let outcome = archive::check(bytes);
+    let part = archive::sheet_part(bytes, outcome);
     part.len() as u64
 }
 

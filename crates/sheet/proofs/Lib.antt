@@ -3,6 +3,7 @@ pub mod Passed
 pub mod Units
 pub mod Fits
 pub mod Verdict
+pub mod ByHand
 mod Fields
 mod View
 mod Walk

@@ -2,8 +2,9 @@
 use libc::STDIN_FILENO;
 
 fn print_record(bytes: &[u8]) {
-    console::answer(archive::check(bytes));
-    let part = archive::read(bytes);
+    let outcome = archive::check(bytes);
+    console::answer(outcome);
+    let part = archive::sheet_part(bytes, outcome);
     console::word(part.len() as u64);
     console::newline();
 }

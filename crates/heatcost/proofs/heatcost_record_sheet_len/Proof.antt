@@ -6,11 +6,14 @@ use borrow.Author.Needs.{needs}
 use Rattle.heatcost.proofs.heatcost_record_sheet_len.Statement.{statement}
 use Rattle.heatcost.proofs.heatcost_record_sheet_len.Tie as tie
 
-read-requires : tie.Need-read-requires
-read-requires c κs = search needs
+check-requires : tie.Need-check-requires
+check-requires c κs = search needs
+
+sheet-part-requires : tie.Need-sheet-part-requires
+sheet-part-requires c κs = search needs
 
 returns : tie.Need-returns
-returns c = ap length (c .read .ensures .bytes) ∙ part-length (c .before .before .args .bytes .now)
+returns c = ap length (c .sheet-part .ensures .bytes) ∙ part-length (c .before .before .before .args .bytes .now)
 
 pub heatcost-record-sheet-len-spec : {M : Type 1} → statement M
-heatcost-record-sheet-len-spec = tie.close (tie.spec read-requires returns)
+heatcost-record-sheet-len-spec = tie.close (tie.spec check-requires sheet-part-requires returns)

@@ -39,7 +39,8 @@ use denote.Triple.Walked.{says, Stays, stay-none, walkOf, goes-none, ends-at, wa
 use denote.Exit.{yes}
 use Rattle.sheet.specs.Inner.Fields.{fieldAt}
 use Rattle.sheet.specs.declared.rows.RowView.{RowView}
-use Rattle.sheet.proofs.View.{Bytes, View, number, answered}
+use Rattle.sheet.proofs.ByHand.{Bytes, answered}
+use Rattle.sheet.proofs.View.{View, number}
 use Rattle.sheet.proofs.rows.RowView as T
 use Rattle.sheet.proofs.rows.RowView.Laws as T′
 use Rattle.sheet.proofs.rows.field_at as callee

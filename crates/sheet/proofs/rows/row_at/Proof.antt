@@ -32,7 +32,8 @@ use denote.Triple.Table.{entered}
 use denote.Triple.Walked.{says, Stays, stay-none, stay-none-slice, walkOf, goes-none, goes-none-slice, ends-at, walked, walk-meets}
 use denote.Exit.{yes}
 use Rattle.sheet.specs.declared.rows.RowView.{RowView}
-use Rattle.sheet.proofs.View.{Bytes, number}
+use Rattle.sheet.proofs.ByHand.{Bytes}
+use Rattle.sheet.proofs.View.{number}
 use Rattle.sheet.proofs.rows.RowView as T
 use Rattle.sheet.proofs.rows.RowView.Laws as T′
 use Rattle.sheet.proofs.rows.row_at.Key.{name as #row-at}
