@@ -58,7 +58,7 @@ write-costs-requires c κs =
     let h = c .before .before .before .before .before .before .before .before .before .before .before .before .before .before .before .before .heat-shares .ensures in
     let w = c .before .before .before .before .before .before .before .before .before .before .before .water-shares .ensures in
     let e = c .before .before .before .put-energies in
-    let count : st .args .n ≡ length (s .units) = omega (arith, p .0 .count, p .0 .accepted .checked-sheet .unit-count) in
+    let count : st .args .n ≡ length (s .units) = p .0 .count ∙ sym (p .0 .accepted .checked-sheet .unit-count) in
     record {
       fits = p .0 .ready .fits;
       accepted = p .0 .accepted;
