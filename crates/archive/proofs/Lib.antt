@@ -4,3 +4,4 @@ pub mod Inside
 pub mod RoundTrip
 pub mod Answers
 pub mod Places
+pub mod AtCaseA

@@ -11,3 +11,5 @@ pub mod Shows
 pub mod Steps
 pub mod EveryList
 pub mod Places
+pub mod Written
+pub mod Instance

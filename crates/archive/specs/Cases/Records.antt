@@ -30,7 +30,7 @@ abbrev unit : (id p₀ p₁ b₀ b₁ : ℕ) → List ℕ
 unit id p₀ p₁ b₀ b₁ = (id ∷ 0 ∷ 0 ∷ 0 ∷ 0 ∷ 0 ∷ 232 ∷ 3 ∷ p₀ ∷ p₁ ∷ []) ++ (zeros 10 ++ ((b₀ ∷ b₁ ∷ []) ++ zeros 10))
 
 -- 116,000, 50,000, 0, 0, 1,160, 500, 0, 0; 228,000, 50,000, 0, 0, 2,280, 500, 0, 0; 456,000, 100,000, 0, 0, 4,560, 1,000, 0, 0
-statementA : List ℕ
+unfoldable pub statementA : List ℕ
 statementA =
     (32 ∷ 197 ∷ 1 ∷ 0 ∷ 80 ∷ 195 ∷ 0 ∷ 0 ∷ zeros 8)
     ++ ((136 ∷ 4 ∷ 0 ∷ 0 ∷ 244 ∷ 1 ∷ 0 ∷ 0 ∷ zeros 8)
@@ -39,7 +39,7 @@ statementA =
     ++ ((64 ∷ 245 ∷ 6 ∷ 0 ∷ 160 ∷ 134 ∷ 1 ∷ 0 ∷ zeros 8)
     ++ (208 ∷ 17 ∷ 0 ∷ 0 ∷ 232 ∷ 3 ∷ 0 ∷ 0 ∷ zeros 8)))))
 
-recordA : List ℕ
+unfoldable pub recordA : List ℕ
 recordA = (72 ∷ 67 ∷ 65 ∷ 0 ∷ 1 ∷ 0 ∷ 0 ∷ 0 ∷ []) ++ (header ++ (unit 11 244 1 100 0 ++ (unit 12 244 1 44 1 ++ (unit 13 232 3 88 2 ++ statementA))))
 
 -- ---- answers: the bytes handed back or written, or number and place with the bytes left

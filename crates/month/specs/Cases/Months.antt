@@ -97,7 +97,7 @@ abbrev pub expected : Case → Answer
 expected (x gives y) = y
 
 -- A whole
-monthA : Month
+unfoldable pub monthA : Month
 monthA = record {
   month = 1;
   unitCount = 3;

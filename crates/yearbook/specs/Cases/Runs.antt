@@ -23,44 +23,44 @@ abbrev sheet : (month model v f M : ℕ) → List (List ℕ) → List ℕ
 sheet month model v f M units = sheetBytes month model 0 v 0 0 f 0 M 10000 (zeros 6) units
 
 -- model 2, a quarter and three quarters by p
-byArea : (month M : ℕ) → List ℕ
+unfoldable pub byArea : (month M : ℕ) → List ℕ
 byArea month M = sheet month 2 0 0 M (unit 11 100 ∷ unit 12 300 ∷ [])
 
 -- case F of document 01
-overcharged : (month : ℕ) → List ℕ
+unfoldable pub overcharged : (month : ℕ) → List ℕ
 overcharged month = sheet month 3 30 31 1000 (heated 11 1 1000 500 0 ∷ heated 12 0 1000 1000 300 ∷ [])
 
 -- another n, another id
-oneUnit : List ℕ
+unfoldable pub oneUnit : List ℕ
 oneUnit = sheet 2 2 0 0 1000 (unit 11 100 ∷ [])
 
-otherId : List ℕ
+unfoldable pub otherId : List ℕ
 otherId = sheet 1 2 0 0 1000 (unit 11 100 ∷ unit 13 300 ∷ [])
 
 -- ---- a run: calls, and the answers expected
-data Answer : Type 0 where
+pub data Answer : Type 0 where
   accepts : Answer
   refuses : (number place : ℕ) → Answer
   gives : (k : ℕ) (sums : List ℕ) → Answer
 
-abbrev answerOf : Reply → Answer
+abbrev pub answerOf : Reply → Answer
 answerOf accepted = accepts
 answerOf (refused r) = refuses (numberOf r) (placeOf r)
 answerOf (totals k sums) = gives k sums
 
 infix 70 _gets_
-data Line : Type 0 where
+pub data Line : Type 0 where
   _gets_ : Call → Answer → Line
 
-abbrev callOf : Line → Call
+abbrev pub callOf : Line → Call
 callOf (c gets a) = c
 
-abbrev expected : Line → Answer
+abbrev pub expected : Line → Answer
 expected (c gets a) = a
 
 -- The opening sheet passes 1 to 7 and doesn't settle.
 -- Of M 1,000 the units get 250 and 750, and of ten cents 2.5 and 7.5: the earlier gets the half. Of M 50 they get 13 and 37, and the second the cent.
-run : List Line
+unfoldable pub run : List Line
 run =
     year 0 gets gives 0 (0 ∷ 0 ∷ 0 ∷ 0 ∷ 0 ∷ 0 ∷ 0 ∷ 0 ∷ [])
     ∷ replace (byArea 1 1000) gets refuses 17 0
@@ -87,7 +87,7 @@ run =
     ∷ year 1 gets gives 2 (787 ∷ 0 ∷ 0 ∷ 0 ∷ 8 ∷ 0 ∷ 0 ∷ 0 ∷ [])
     ∷ []
 
-run-right : map answerOf (plainReplies (openedPlain (overcharged 6)) (map callOf run)) ≡ map expected run
+pub run-right : map answerOf (plainReplies (openedPlain (overcharged 6)) (map callOf run)) ≡ map expected run
 unfolding run byArea overcharged oneUnit otherId unitBytes joined sheetBytes inBytes
     openedPlain stands sheetsOf nowHolds notKept brought withdrawn numberIn unitSums told called plainReplies
     sharesBy all any firstRefusal unitRow rows sheetOf headerTests rowTests rowRules sheetRules
