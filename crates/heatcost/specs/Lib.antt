@@ -1,3 +1,4 @@
 -- What the calls for other languages answer.
 pub mod Answer
 pub mod Year
+pub mod Cases

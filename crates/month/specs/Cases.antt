@@ -1,2 +1,3 @@
 -- Computed cases: samples, tables and runs.
 pub mod Months
+pub mod Portions

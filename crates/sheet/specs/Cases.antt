@@ -1,3 +1,4 @@
 -- Computed cases: samples, tables and runs.
 pub mod Samples
 pub mod Checks
+pub mod Ranges

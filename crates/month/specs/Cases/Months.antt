@@ -1,4 +1,4 @@
--- Computed cases, from the bytes on: A to L (document 01, "Cases for the proofs"), and small sheets of each model and water source and refusals 8 to 11, checked by hand.
+-- Computed cases, from the bytes on: A to L (document 01, "Cases for the proofs"), and small sheets of each model and water source and refusals 8 to 12, worked by hand.
 -- docs/REGULATION.md takes its figures from this table.
 use mathlib.Core.Path.{_≡_, refl}
 use mathlib.Core.List.{List, [], _∷_, _++_, map}
@@ -134,6 +134,8 @@ casesByHand =
     -- Model 1, q 1,000 and 3,000. Of the ten cents 2.5 and 7.5 are due: the earlier gets the half.
     answer (sheet 1 0 0 0 0 0 0 1000 10000 (first 0) (unitBytes 11 0 0 1000 100 0 1000 0 0 0 ∷ unitBytes 12 0 0 1000 100 0 3000 0 0 0 ∷ []))
     gives settles 10 (250 ∷ 0 ∷ 0 ∷ 0 ∷ 3 ∷ 0 ∷ 0 ∷ 0 ∷ 750 ∷ 0 ∷ 0 ∷ 0 ∷ 7 ∷ 0 ∷ 0 ∷ 0 ∷ [])
+    -- The same q, whatever p and KF.
+    ∷ heats (sheet 1 0 0 0 0 0 0 1000 10000 (first 0) (unitBytes 11 0 0 1000 300 0 1000 0 0 0 ∷ unitBytes 12 0 0 500 100 0 3000 0 0 0 ∷ [])) gives numbers (250 ∷ 750 ∷ [])
     -- Model 2 with both water classes: n1 2, n2 1, L 40, N2 4, so 480 Wh by 240, 80, 160; common water 120 Wh by 1, 3, 4; the fourth unit has no water.
     ∷ answer (waterSheet 20 (unitBytes 11 0 1 1000 50 0 0 0 30 1 ∷ unitBytes 12 0 1 1000 50 0 0 0 10 3 ∷ unitBytes 13 0 2 1000 100 0 0 0 0 4 ∷ unitBytes 14 0 0 1000 200 0 0 0 0 0 ∷ []))
     gives settles 10 (
@@ -143,6 +145,20 @@ casesByHand =
     ∷ 200 ∷ 0 ∷ 0 ∷ 0 ∷ 2 ∷ 0 ∷ 0 ∷ 0
     ∷ []
     )
+    -- One unit of class 1, two of class 2: n1 1, n2 2, L 10, N2 4, so 600 Wh by 1 × 10 × 4 = 40, 2 × 1 × 10 = 20, 2 × 3 × 10 = 60; heat 400 Wh by p, whatever q and KF.
+    ∷ answer (waterSheet 0 (unitBytes 11 0 1 1000 100 0 700 0 10 5 ∷ unitBytes 12 0 2 1000 100 0 0 0 0 1 ∷ unitBytes 13 0 2 500 200 0 0 0 0 3 ∷ []))
+    gives settles 10 (
+    100 ∷ 0 ∷ 200 ∷ 0 ∷ 1 ∷ 0 ∷ 2 ∷ 0
+    ∷ 100 ∷ 0 ∷ 100 ∷ 0 ∷ 1 ∷ 0 ∷ 1 ∷ 0
+    ∷ 200 ∷ 0 ∷ 300 ∷ 0 ∷ 2 ∷ 0 ∷ 3 ∷ 0
+    ∷ []
+    )
+    -- Six different readings, 600 × (1 + 2 + 4 + 8 + 16 + 32) Wh: 115 × 63.
+    ∷ hotWaterOf 3 0 (600 ∷ 1200 ∷ 2400 ∷ 4800 ∷ 9600 ∷ 19200 ∷ []) gives numbers (7245 ∷ [])
+    -- The bill just under half a cent, 499,999 millionths.
+    ∷ billOf 499999 1 gives numbers (0 ∷ [])
+    -- A with v 20: r is 80 × b × 2,000 + 20 × p × 1,000, in millions 16 + 10, 48 + 10, 96 + 20, of 200.
+    ∷ heats (sheet 3 0 20 20 0 30 0 1000000 10000 (first 0) (unitsA 100 300 600)) gives numbers (104000 ∷ 232000 ∷ 464000 ∷ [])
     -- Model 3 with KF 1,000, 200, 1,000: r 15, 85, 100 millions, the first raised to 20, so weights 20, 17, 100.
     ∷ heats (sheet 3 0 30 50 0 30 0 274000 10000 (first 0) (heated 11 0 1000 500 0 ∷ heated 12 0 200 500 500 ∷ heated 13 0 1000 1000 500 ∷ []))
     gives numbers (20000 ∷ 17000 ∷ 100000 ∷ [])
@@ -192,10 +208,13 @@ casesByHand =
     ∷ heats (partlyMetered 30) gives numbers (50000 ∷ 150000 ∷ 600000 ∷ [])
     ∷ heats (partlyMetered 25) gives numbers (75000 ∷ 225000 ∷ 500000 ∷ [])
     ∷ heats (partlyMetered 36) gives refuses 4 0
+    -- Model 5, B = 0, unit 13 in status 2: a third of 900 by its p; the rest by p × KF.
+    ∷ heats (sheet 5 0 0 0 0 30 0 900 10000 (first 0) (heated 11 0 1000 100 0 ∷ heated 12 0 500 100 0 ∷ heated 13 2 1000 100 0 ∷ [])) gives numbers (400 ∷ 200 ∷ 300 ∷ [])
     -- No bytes.
     ∷ answer [] gives refuses 1 0
-    -- 8: H 1,001 of M 1,000.
+    -- 8: H 1,001 of M 1,000; 1,000 passes.
     ∷ answer (sheet 2 1 0 0 0 0 0 1000 10000 (first 1001) (unitBytes 11 0 1 1000 100 0 0 0 5 1 ∷ [])) gives refuses 8 0
+    ∷ answer (sheet 2 1 0 0 0 0 0 1000 10000 (first 1000) (unitBytes 11 0 1 1000 100 0 0 0 5 1 ∷ [])) gives settles 10 (0 ∷ 0 ∷ 1000 ∷ 0 ∷ 0 ∷ 0 ∷ 10 ∷ 0 ∷ [])
     -- 9: n1 + n2 = 0; L = 0; N2 = 0; y > 0 and no persons; model 1 with all q 0; model 4 with S = 0.
     ∷ answer (waterSheet 0 (unitBytes 11 0 0 1000 100 0 0 0 0 0 ∷ [])) gives refuses 9 0
     ∷ answer (waterSheet 0 (unitBytes 11 0 1 1000 100 0 0 0 0 1 ∷ [])) gives refuses 9 0
@@ -203,11 +222,27 @@ casesByHand =
     ∷ answer (waterSheet 20 (unitBytes 11 0 1 1000 100 0 0 0 5 0 ∷ [])) gives refuses 9 0
     ∷ answer (sheet 1 0 0 0 0 0 0 1000 10000 (first 0) (unitBytes 11 0 0 1000 100 0 0 0 0 0 ∷ [])) gives refuses 9 0
     ∷ answer (sheet 4 0 50 0 0 30 0 1000 10000 (first 0) (unitBytes 11 0 0 1000 100 0 0 30 0 0 ∷ [])) gives refuses 9 0
-    -- 10: nobody read.
+    -- L = 0 and N2 = 0 beside the other class. With y 0 and no persons, and with H 0 and n1 + n2 = 0, all heat is unit 11's.
+    ∷ answer (waterSheet 0 (unitBytes 11 0 1 1000 100 0 0 0 0 1 ∷ unitBytes 12 0 2 1000 100 0 0 0 0 1 ∷ [])) gives refuses 9 0
+    ∷ answer (waterSheet 0 (unitBytes 11 0 1 1000 100 0 0 0 5 1 ∷ unitBytes 12 0 2 1000 100 0 0 0 0 0 ∷ [])) gives refuses 9 0
+    ∷ heats (waterSheet 0 (unitBytes 11 0 1 1000 100 0 0 0 5 0 ∷ [])) gives numbers (400 ∷ [])
+    ∷ heats (sheet 2 1 0 0 20 0 0 1000 10000 (first 0) (heated 11 0 1000 100 0 ∷ [])) gives numbers (1000 ∷ [])
+    -- 10: nobody read, in models 3 and 5.
     ∷ answer (sheetA 30 (heated 11 2 1000 500 0 ∷ [])) gives refuses 10 0
+    ∷ answer (sheet 5 0 0 0 0 30 0 1000 10000 (first 0) (heated 11 2 1000 500 0 ∷ [])) gives refuses 10 0
     -- 11: H by case I is 82, exactly 81.54; so of M 182 a C of 100 passes, 101 does not.
     ∷ heats (sheet 5 2 0 0 0 30 51 182 10000 (first 1) (unitBytes 11 0 1 1000 100 0 0 100 1 1 ∷ [])) gives numbers (100 ∷ [])
     ∷ answer (sheet 5 2 0 0 0 30 51 182 10000 (first 1) (unitBytes 11 0 1 1000 100 0 0 101 1 1 ∷ [])) gives refuses 11 0
+    -- 12: F in models 4 and 5.
+    ∷ answer (sheet 4 0 30 20 0 31 0 1000000 10000 (first 0) (unitBytes 11 1 0 1000 500 10 0 0 0 0 ∷ unitBytes 12 0 0 1000 1000 10 0 300 0 0 ∷ [])) gives refuses 12 0
+    ∷ answer (sheet 5 0 0 20 0 31 0 1000000 10000 (first 0) unitsE) gives refuses 12 0
+    -- Several faults, the lowest decides. One unit without a device, f 31: 8, 9, 10, 12 in model 4 with H 1,001 of M 1,000; 9, 10, 12 without hot water; 10, 12 in model 3.
+    ∷ answer (sheet 4 1 50 0 0 31 0 1000 10000 (first 1001) (unitBytes 11 1 0 1000 100 10 0 0 0 0 ∷ [])) gives refuses 8 0
+    ∷ answer (sheet 4 0 50 0 0 31 0 1000 10000 (first 0) (unitBytes 11 1 0 1000 100 10 0 0 0 0 ∷ [])) gives refuses 9 0
+    ∷ answer (sheet 3 0 30 0 0 31 0 1000 10000 (first 0) (unitBytes 11 1 0 1000 100 10 0 0 0 0 ∷ [])) gives refuses 10 0
+    -- One unit of model 5, read, C 101, n1 + n2 = 0: 8, 9, 11 with H 1,001; 9, 11 with H 900.
+    ∷ answer (sheet 5 1 0 0 0 30 0 1000 10000 (first 1001) (heated 11 0 1000 100 101 ∷ [])) gives refuses 8 0
+    ∷ answer (sheet 5 1 0 0 0 30 0 1000 10000 (first 900) (heated 11 0 1000 100 101 ∷ [])) gives refuses 9 0
     ∷ []
 
 pub cases : List Case

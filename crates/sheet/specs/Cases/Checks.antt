@@ -1,4 +1,4 @@
--- Computed cases of the check: each of refusals 1 to 7, its ends, and which of two faults decides. One table, one theorem.
+-- Computed cases of the check: each of refusals 1 to 7, its place, and which of two faults decides. One table, one theorem. The ranges stand in Ranges.
 use mathlib.Core.Path.{_≡_, refl}
 use mathlib.Core.List.{List, [], _∷_, _++_, map}
 use Prim.Native.Nat.{ℕ, _+_, _*_}
@@ -40,46 +40,21 @@ cases =
     -- 3
     ∷ (put 4 2 caseA gives Refused UnsupportedVersion)
     ∷ (put 5 1 caseA gives Refused UnsupportedVersion)
-    -- 4
-    ∷ (put 6 0 caseA gives Refused HeaderField)  -- month
-    ∷ (put 6 13 caseA gives Refused HeaderField)
-    ∷ (put 7 0 caseA gives Refused HeaderField)  -- model
-    ∷ (put 7 6 caseA gives Refused HeaderField)
-    ∷ (put 8 0 caseA gives Refused HeaderField)  -- n
-    ∷ (put 8 161 caseA gives Refused HeaderField)
-    ∷ (put 10 4 caseA gives Refused HeaderField)  -- source
-    ∷ (put 11 19 caseA gives Refused HeaderField)  -- v
-    ∷ (put 11 31 caseA gives Refused HeaderField)
-    ∷ (put 12 51 caseA gives Refused HeaderField)  -- z
-    ∷ (put 13 1 caseA gives Refused HeaderField)  -- y
-    ∷ (put 14 24 caseA gives Refused HeaderField)  -- f
-    ∷ (put 14 36 caseA gives Refused HeaderField)
-    ∷ (put 15 1 caseA gives Refused HeaderField)  -- t
-    ∷ (put 19 255 caseA gives Refused HeaderField)  -- M
-    ∷ (put 22 2 caseA gives Refused HeaderField)  -- price
-    ∷ (put 24 1 caseA gives Refused HeaderField)  -- h1
-    ∷ (put 47 1 caseA gives Refused HeaderField)  -- h6
+    -- 4; the fields in Ranges
+    ∷ (put 6 0 caseA gives Refused HeaderField)
     -- 5
     ∷ (take 48 caseA gives Refused WrongLength)
     ∷ (take 143 caseA gives Refused WrongLength)
     ∷ (caseA ++ zeros 1 gives Refused WrongLength)
     ∷ (put 8 2 caseA gives Refused WrongLength)
-    -- 6
-    ∷ (put (inRow 0 4) 5 caseA gives Refused (RowField 0))  -- status
+    -- 6 with its place; the fields in Ranges
+    ∷ (put (inRow 0 4) 5 caseA gives Refused (RowField 0))
     ∷ (put (inRow 1 4) 1 caseA gives Refused (RowField 1))  -- b of a unit that isn't read
-    ∷ (put (inRow 2 5) 1 caseA gives Refused (RowField 2))  -- water class without a source
-    ∷ (put (inRow 0 7) 0 (put (inRow 0 6) 0 caseA) gives Refused (RowField 0))  -- KF
-    ∷ (put (inRow 1 7) 4 caseA gives Refused (RowField 1))
-    ∷ (put (inRow 2 11) 1 caseA gives Refused (RowField 2))  -- p
-    ∷ (put (inRow 0 14) 1 caseA gives Refused (RowField 0))  -- s
-    ∷ (put (inRow 1 19) 1 caseA gives Refused (RowField 1))  -- q
-    ∷ (put (inRow 2 22) 1 caseA gives Refused (RowField 2))  -- b
-    ∷ (put (inRow 0 24) 1 caseA gives Refused (RowField 0))  -- litres
-    ∷ (put (inRow 1 28) 1 caseA gives Refused (RowField 1))  -- persons
-    ∷ (put (inRow 2 31) 1 caseA gives Refused (RowField 2))  -- the last two bytes
+    ∷ (put (inRow 2 31) 1 caseA gives Refused (RowField 2))
     -- 7
     ∷ (put (inRow 1 0) 11 caseA gives Refused (IdOrder 1))
     ∷ (put (inRow 2 0) 1 caseA gives Refused (IdOrder 2))
+    ∷ (put (inRow 0 3) 1 caseA gives Refused (IdOrder 1))  -- the first id's highest byte
     -- two faults: the lower number
     ∷ (put 0 0 (take 47 caseA) gives Refused TooShort)
     ∷ (put 0 0 (put 4 2 caseA) gives Refused BadMagic)

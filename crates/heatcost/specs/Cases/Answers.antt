@@ -1,0 +1,45 @@
+-- Computed cases of an answer as one number, and of the order of the year call's refusals.
+use mathlib.Core.Path.{_≡_, refl}
+use mathlib.Core.List.{List, [], _∷_, map}
+use Prim.Native.Nat.{ℕ}
+use lib.ListN.{replicate}
+use Rattle.sheet.specs.declared.refusal.Refusal.{Refusal}
+use Rattle.sheet.specs.declared.refusal.Refusal.the-variants.{TooShort, BadMagic, UnsupportedVersion, HeaderField, WrongLength, RowField, IdOrder}
+use Rattle.sheet.specs.declared.refusal.Refusal.the-variants.{HotWaterExceedsMeter, ZeroDivisor, NoReadings, MetersExceedHeat, UnmeteredExceedsHeat}
+use Rattle.sheet.specs.declared.refusal.Refusal.the-variants.{BufferLength, BadArchive, BadYearBook, OtherBuilding, MonthState, NoSuchUnit}
+use Rattle.sheet.specs.declared.refusal.Outcome.{Outcome}
+use Rattle.sheet.specs.declared.refusal.Outcome.the-variants.{Accepted, Refused}
+use Rattle.sheet.specs.Tests.{any}
+use Rattle.sheet.specs.Refusals.{firstRefusal}
+use Rattle.yearbook.specs.LentBook.{badBook, yearRules}
+use Rattle.heatcost.specs.Answer.{answerNumber}
+use Rattle.heatcost.specs.Year.{yearListAnswer}
+
+-- document 01's table of refusals from 1 to 18, those of a row at place 0
+refusals : List Refusal
+refusals =
+    TooShort ∷ BadMagic ∷ UnsupportedVersion ∷ HeaderField ∷ WrongLength ∷ RowField 0 ∷ IdOrder 0
+    ∷ HotWaterExceedsMeter ∷ ZeroDivisor ∷ NoReadings ∷ MetersExceedHeat ∷ UnmeteredExceedsHeat
+    ∷ BufferLength ∷ BadArchive ∷ BadYearBook ∷ OtherBuilding ∷ MonthState ∷ NoSuchUnit
+    ∷ []
+
+numbers : map answerNumber (Accepted ∷ map Refused refusals)
+    ≡ 0 ∷ 1 ∷ 2 ∷ 3 ∷ 4 ∷ 5 ∷ 6 ∷ 7 ∷ 8 ∷ 9 ∷ 10 ∷ 11 ∷ 12 ∷ 13 ∷ 14 ∷ 15 ∷ 16 ∷ 17 ∷ 18 ∷ []
+unfolding refusals
+numbers = refl
+
+-- 6 + 256 × 2, 7 + 256 × 159
+places : map answerNumber (Refused (RowField 2) ∷ Refused (IdOrder 159) ∷ []) ≡ 518 ∷ 40711 ∷ []
+places = refl
+
+-- ---- the year call on a book of n units and nothing else: 15, then 13, then 18
+abbrev book : (n : ℕ) → List ℕ
+book n = n ∷ replicate 15556 0
+
+abbrev list : (count : ℕ) → List ℕ
+list count = replicate count 0
+
+year-list : yearListAnswer [] 0 (list 8) ∷ yearListAnswer (book 161) 0 (list 8) ∷ yearListAnswer (book 1) 1 (list 8) ∷ yearListAnswer (book 1) 1 (list 9) ∷ map (λ count. yearListAnswer (book 1) 0 (list count)) (8 ∷ 9 ∷ 10 ∷ [])
+    ≡ Refused BadYearBook ∷ Refused BadYearBook ∷ Refused BufferLength ∷ Refused NoSuchUnit ∷ Refused BufferLength ∷ Accepted ∷ Refused BufferLength ∷ []
+unfolding yearListAnswer yearRules badBook any firstRefusal
+year-list = refl
