@@ -1,7 +1,6 @@
 -- In step 2's exception C is the amount added; else EG by (100 − z, z). Assumes nothing.
 use mathlib.Core.Path.{_≡_, sym, ap, _∙_}
 use mathlib.Core.Bool.{true}
-use Prim.Native.Nat.{ℕ}
 use native.Mathlib.Omega.{arith}
 use borrow.Author.Needs.{needs}
 use Rattle.sheet.specs.Layout.{Sheet, sheetOf}
