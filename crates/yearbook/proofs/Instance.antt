@@ -17,7 +17,7 @@ use Rattle.month.specs.Fraction.{Near, _over_, _+ᶠ_, _-ᶠ_, sumᶠ, portion,
 use Rattle.month.specs.Portions.{energyPortion, billPart}
 use Rattle.month.specs.Laws.{sumTo}
 use Rattle.month.specs.Month.{hotWaterWh, spaceHeatWh, zeroWaterDivisor, zeroDivisor, monthRules, billCents, costs, fourAndFour, statementOf, monthOf, settled, settleRules, settledSheet}
-use Rattle.yearbook.specs.Calls.{Call, year, Reply, accepted, totals}
+use Rattle.yearbook.specs.Calls.{Call, post, replace, withdraw, year, Reply, accepted, totals}
 use Rattle.yearbook.specs.PlainBook.{PlainBook, openedPlain, standing, stands, sheetsOf, nowHolds, notKept, brought, withdrawn, numberIn, unitSums, told, called, plainReplies, plainAfter}
 use Rattle.yearbook.specs.LentBook.{openAnswer, bookOpened, lentReply, lentAfter}
 use Rattle.yearbook.specs.Theorem.{CallsMade, no-call, then, YearBook}
@@ -59,15 +59,23 @@ passes : checked 32 opening ≡ Accepted
 unfolding opening overcharged unitBytes joined sheetBytes inBytes all firstRefusal unitRow rows sheetOf headerTests rowTests rowRules sheetRules checked
 passes = refl
 
+at-calls : (cs : List Call) → YearBook opening (openAnswer sevens opening) cs (repliesOf start cs) (afterAll start cs)
+unfolding sevens start
+at-calls cs =
+    every-list-of-calls sevens opening start (afterAll start cs) (openAnswer sevens opening) cs (repliesOf start cs)
+    (length-replicate {A = ℕ} 15557 7) passes (record { answer = refl; after = refl }) (made start cs)
+
 at-run : YearBook opening (openAnswer sevens opening) calls (repliesOf start calls) last
-unfolding sevens start last
-at-run =
-    every-list-of-calls sevens opening start last (openAnswer sevens opening) calls (repliesOf start calls)
-    (length-replicate {A = ℕ} 15557 7) passes (record { answer = refl; after = refl }) (made start calls)
+unfolding last
+at-run = at-calls calls
 
 -- ---- what it says
 abbrev plain : PlainBook
 plain = plainAfter (openedPlain opening) calls
+
+-- the calls of specs/Cases/Written.antt in an order in which each is accepted
+six : List Call
+six = post january ∷ replace january ∷ post december ∷ replace december ∷ withdraw 1 ∷ withdraw 12 ∷ []
 
 record Said : Type 0 where
   opens : openAnswer sevens opening ≡ Accepted
@@ -85,9 +93,10 @@ record Said : Type 0 where
   -- the lent list of the 16th call, withdraw 1, and of the last, where january stands again
   cleared : Left (afterAll start (take 15 calls)) (afterAll start (take 16 calls)) (numbers 0 0 0 []) ofMonth1
   written : Left (afterAll start (take 20 calls)) last (numbers 1 1000 10 januaryNumbers) ofMonth1
+  each-accepted : repliesOf start six ≡ accepted ∷ accepted ∷ accepted ∷ accepted ∷ accepted ∷ accepted ∷ []
 
 at-run-said : Said
-unfolding calls opening last lentAfter plainReplies run byArea overcharged oneUnit otherId unitBytes joined sheetBytes inBytes
+unfolding calls six opening last lentAfter plainReplies run byArea overcharged oneUnit otherId unitBytes joined sheetBytes inBytes
     openedPlain stands sheetsOf nowHolds notKept brought withdrawn numberIn unitSums told called plainAfter
     sharesBy all any firstRefusal unitRow rows sheetOf headerTests rowTests rowRules sheetRules
     allMetered meteredSum hasPool totalArea unreadWeight unreadWeights poolWeight readingSum readArea readSurface areaWeight surfaceWeight readWeight readWeights unitsOfClass litresOfClass1 personsOfClass2 waterWeight
@@ -109,4 +118,5 @@ at-run-said =
       cent = k .cents-near 1 0 (omega arith) (omega arith);
       cleared = lent-lists .called .1 .0 .0 _ (ap (λ (l : List Reply). getD l 15 accepted) (at-run .same-replies));
       written = lent-lists .called .0 .0 _ (ap (λ (l : List Reply). getD l 20 accepted) (at-run .same-replies));
+      each-accepted = at-calls six .same-replies;
     }
