@@ -6,5 +6,5 @@ mod writer;
 pub use reader::Reading;
 pub use reader::check;
 pub use reader::read;
-pub use reader::sheet_part;
+pub use reader::sheet_of;
 pub use writer::write;

@@ -110,7 +110,7 @@ pub struct Reading<'a> {
 }
 
 // The sheet's part of a record by the check's outcome; on a refusal the empty part at the record's start.
-pub fn sheet_part<'a>(bytes: &'a [u8], outcome: Outcome) -> &'a [u8]
+fn sheet_part<'a>(bytes: &'a [u8], outcome: Outcome) -> &'a [u8]
     requires { ⌜ outcome ≡ readOutcome (now bytes) ⌝ }
     ensures { λ r. ⌜ SheetPart r (bytes .entry) ⌝ }
 {
@@ -120,6 +120,14 @@ pub fn sheet_part<'a>(bytes: &'a [u8], outcome: Outcome) -> &'a [u8]
     let n = header::header_field(&bytes[8..], header::UNIT_COUNT) as usize;
     let end = 56 + 32 * n;
     &bytes[8..end]
+}
+
+// Any bytes: the sheet's part alone.
+pub fn sheet_of<'a>(bytes: &'a [u8]) -> &'a [u8]
+    ensures { λ r. ⌜ SheetPart r (bytes .entry) ⌝ }
+{
+    let outcome = check(bytes);
+    sheet_part(bytes, outcome)
 }
 
 // Any bytes: the check's outcome and its part, at one settling.

@@ -51,9 +51,8 @@ fn writes_anew(sheet: &[u8], stored: &[u8]) -> bool
 fn print_answers(stored: &[u8])
     requires { ⌜ length (now stored) ≤ 10400 ⌝ }
 {
-    let outcome = archive::check(stored);
-    console::answer(outcome);
-    let part = archive::sheet_part(stored, outcome);
+    console::answer(archive::check(stored));
+    let part = archive::sheet_of(stored);
     console::word(part.len() as u64);
     print_same(writes_anew(part, stored));
     console::newline();

@@ -53,8 +53,7 @@ pub extern "C" fn heatcost_read_record(bytes: &[u8]) -> u32
 pub extern "C" fn heatcost_record_sheet_len(bytes: &[u8]) -> u64
     ensures { λ r. ⌜ r ≡ countOf (readOutcome (now (bytes .entry))) (now (bytes .entry)) ⌝ }
 {
-    let outcome = archive::check(bytes);
-    let part = archive::sheet_part(bytes, outcome);
+    let part = archive::sheet_of(bytes);
     part.len() as u64
 }
 

@@ -2,9 +2,8 @@
 use libc::STDIN_FILENO;
 
 fn print_record(bytes: &[u8]) {
-    let outcome = archive::check(bytes);
-    console::answer(outcome);
-    let part = archive::sheet_part(bytes, outcome);
+    console::answer(archive::check(bytes));
+    let part = archive::sheet_of(bytes);
     console::word(part.len() as u64);
     console::newline();
 }

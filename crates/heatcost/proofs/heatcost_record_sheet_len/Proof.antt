@@ -6,14 +6,11 @@ use borrow.Author.Needs.{needs}
 use Rattle.heatcost.proofs.heatcost_record_sheet_len.Statement.{statement}
 use Rattle.heatcost.proofs.heatcost_record_sheet_len.Tie as tie
 
-check-requires : tie.Need-check-requires
-check-requires c κs = search needs
-
-sheet-part-requires : tie.Need-sheet-part-requires
-sheet-part-requires c κs = search needs
+sheet-of-requires : tie.Need-sheet-of-requires
+sheet-of-requires c κs = search needs
 
 returns : tie.Need-returns
-returns c = ap length (c .sheet-part .ensures .bytes) ∙ part-length (c .before .before .before .args .bytes .now)
+returns c = ap length (c .sheet-of .ensures .bytes) ∙ part-length (c .before .before .args .bytes .now)
 
 pub heatcost-record-sheet-len-spec : {M : Type 1} → statement M
-heatcost-record-sheet-len-spec = tie.close (tie.spec check-requires sheet-part-requires returns)
+heatcost-record-sheet-len-spec = tie.close (tie.spec sheet-of-requires returns)

@@ -27,7 +27,7 @@ abbrev six : List ℕ
 six = 1000 ∷ 1000 ∷ 1000 ∷ 1000 ∷ 1000 ∷ 1000 ∷ []
 
 -- case A's units, unit 11 without a device
-unitsD : List (List ℕ)
+unfoldable pub unitsD : List (List ℕ)
 unitsD = heated 11 1 1000 500 0 ∷ heated 12 0 1000 500 300 ∷ heated 13 0 1000 1000 600 ∷ []
 
 -- p 500 without a device, p 1,000 read

@@ -15,6 +15,7 @@ use Rattle.month.specs.Weights.{allMetered, meteredSum, totalArea, unrea
 use Rattle.month.specs.Steps.{splitBy, inUnitOrder, unitByUnit, hotWater, spaceHeat, heatParts, poolShares, readShares, heat, commonHeat, waterParts, water, commonWater, energies}
 use Rattle.month.specs.Month.{billCents}
 use Rattle.month.specs.Portions.{energyPortion, billPart}
+use Rattle.month.specs.Cases.Months.{unitsD}
 
 -- ---- sheets in bytes, of month 1 and price 10,000
 caseB : List ℕ
@@ -25,7 +26,7 @@ caseC = sheetA 30 (unitsA 1000 0 0)
 
 -- case D with M 1
 oneWh : List ℕ
-oneWh = sheetBytes 1 3 0 30 20 0 30 0 1 10000 (zeros 6) (heated 11 1 1000 500 0 ∷ heated 12 0 1000 500 300 ∷ heated 13 0 1000 1000 600 ∷ [])
+oneWh = sheetBytes 1 3 0 30 20 0 30 0 1 10000 (zeros 6) unitsD
 
 -- model 3, M 282, z 20, B = 0; source 2, t 51, one litre, y 10; p 100 and 200, class 2, persons 1 and 3
 coldWater : List ℕ
@@ -118,7 +119,7 @@ expected : Case → Crossed
 expected (f equals g) = record { product = g .upper *ℤ pos (f .lower); above0 = true }
 
 all-cases : map given cases ≡ map expected cases
-unfolding cases given expected fromPlace portionsOf centsOf caseB caseC oneWh coldWater summer byArea
+unfolding cases given expected fromPlace portionsOf centsOf caseB caseC unitsD oneWh coldWater summer byArea
     unitBytes joined sheetBytes inBytes sharesBy all unitRow rows sheetOf _+ᶠ_ _-ᶠ_ sumᶠ portion portions
     allMetered meteredSum totalArea unreadWeight unreadWeights poolWeight readingSum readArea readSurface areaWeight surfaceWeight readWeight readWeights unitsOfClass litresOfClass1 personsOfClass2 waterWeight
     splitBy inUnitOrder unitByUnit hotWater spaceHeat heatParts poolShares readShares heat commonHeat waterParts water commonWater energies
