@@ -1,15 +1,17 @@
-//! The library's calls (include/heatcost.h), each behind a safe function.
+//! The library's calls, each behind a safe function. `tests/header.rs` of the
+//! crate above holds these declarations to include/heatcost.h.
 
+#[rustfmt::skip]
 extern "C" {
-    fn heatcost_settle(sheet: *const u8, n: usize, statement: *mut u32, m: usize) -> u32;
-    fn heatcost_write_record(sheet: *const u8, n: usize, record: *mut u8, m: usize) -> u32;
-    fn heatcost_read_record(record: *const u8, n: usize) -> u32;
-    fn heatcost_record_sheet_len(record: *const u8, n: usize) -> u64;
-    fn heatcost_open(book: *mut u32, n: usize, sheet: *const u8, m: usize) -> u32;
-    fn heatcost_post(book: *mut u32, n: usize, sheet: *const u8, m: usize) -> u32;
-    fn heatcost_replace(book: *mut u32, n: usize, sheet: *const u8, m: usize) -> u32;
-    fn heatcost_withdraw(book: *mut u32, n: usize, month: u32) -> u32;
-    fn heatcost_year(book: *const u32, n: usize, place: u32, totals: *mut u64, m: usize) -> u32;
+    fn heatcost_settle(sheet: *const u8, sheet_len: usize, statement: *mut u32, statement_len: usize) -> u32;
+    fn heatcost_write_record(sheet: *const u8, sheet_len: usize, record: *mut u8, record_len: usize) -> u32;
+    fn heatcost_read_record(record: *const u8, record_len: usize) -> u32;
+    fn heatcost_record_sheet_len(record: *const u8, record_len: usize) -> u64;
+    fn heatcost_open(book: *mut u32, book_len: usize, sheet: *const u8, sheet_len: usize) -> u32;
+    fn heatcost_post(book: *mut u32, book_len: usize, sheet: *const u8, sheet_len: usize) -> u32;
+    fn heatcost_replace(book: *mut u32, book_len: usize, sheet: *const u8, sheet_len: usize) -> u32;
+    fn heatcost_withdraw(book: *mut u32, book_len: usize, month: u32) -> u32;
+    fn heatcost_year(book: *const u32, book_len: usize, place: u32, totals: *mut u64, totals_len: usize) -> u32;
 }
 
 #[cfg(feature = "division")]

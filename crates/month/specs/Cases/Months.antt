@@ -34,6 +34,10 @@ unitsD = heated 11 1 1000 500 0 ∷ heated 12 0 1000 500 300 ∷ heated 13 0 100
 unitsE : List (List ℕ)
 unitsE = heated 11 1 1000 500 0 ∷ heated 12 0 1000 1000 300 ∷ []
 
+-- model 3, z 0, p 500 each: unit 11 read, 12 and 13 with a fault
+lastTheRest : (M : ℕ) → List ℕ
+lastTheRest M = sheet 3 0 30 0 0 30 0 M 10000 (first 0) (heated 11 0 1000 500 100 ∷ heated 12 2 1000 500 0 ∷ heated 13 2 1000 500 0 ∷ [])
+
 -- model 5, p 500 and 1,000 read, p 500 without a device
 partlyMetered : (f : ℕ) → List ℕ
 partlyMetered f = sheet 5 0 0 20 0 f 0 1000000 10000 (first 0) (heated 11 0 1000 500 100000 ∷ heated 12 0 1000 1000 300000 ∷ heated 13 1 1000 500 0 ∷ [])
@@ -179,6 +183,9 @@ casesByHand =
     ∷ heats (sheetA 30 (heated 11 1 1000 500 0 ∷ heated 12 0 500 500 300 ∷ heated 13 0 1000 1000 600 ∷ [])) gives numbers (600000 ∷ 40000 ∷ 160000 ∷ [])
     -- Model 3, B = 0: by p × KF.
     ∷ heats (sheetA 30 (heated 11 0 1000 500 0 ∷ heated 12 0 500 1000 0 ∷ [])) gives numbers (400000 ∷ 400000 ∷ [])
+    -- Model 3, units 12 and 13 in status 2: three equal weights, in row order 12, 13 and last the rest, which is unit 11's. One Wh, then two.
+    ∷ heats (lastTheRest 1) gives numbers (0 ∷ 1 ∷ 0 ∷ [])
+    ∷ heats (lastTheRest 2) gives numbers (0 ∷ 1 ∷ 1 ∷ [])
     -- Model 3, M = 0: nothing by energies of sum 0.
     ∷ answer (sheet 3 0 30 20 0 30 0 0 10000 (first 0) (heated 11 0 1000 500 100 ∷ [])) gives settles 0 (0 ∷ 0 ∷ 0 ∷ 0 ∷ 0 ∷ 0 ∷ 0 ∷ 0 ∷ [])
     -- Model 4, v 50, z 10: r 80,000 each, KF 1,000 and 500. H by t 50 and ten litres is 810, by persons 2 and 1.
@@ -233,7 +240,8 @@ casesByHand =
     -- 11: H by case I is 82, exactly 81.54; so of M 182 a C of 100 passes, 101 does not.
     ∷ heats (sheet 5 2 0 0 0 30 51 182 10000 (first 1) (unitBytes 11 0 1 1000 100 0 0 100 1 1 ∷ [])) gives numbers (100 ∷ [])
     ∷ answer (sheet 5 2 0 0 0 30 51 182 10000 (first 1) (unitBytes 11 0 1 1000 100 0 0 101 1 1 ∷ [])) gives refuses 11 0
-    -- 12: F in models 4 and 5.
+    -- 12: F with M 0, so EG 0; F in models 4 and 5.
+    ∷ answer (sheet 3 0 30 20 0 31 0 0 10000 (first 0) unitsE) gives refuses 12 0
     ∷ answer (sheet 4 0 30 20 0 31 0 1000000 10000 (first 0) (unitBytes 11 1 0 1000 500 10 0 0 0 0 ∷ unitBytes 12 0 0 1000 1000 10 0 300 0 0 ∷ [])) gives refuses 12 0
     ∷ answer (sheet 5 0 0 20 0 31 0 1000000 10000 (first 0) unitsE) gives refuses 12 0
     -- Several faults, the lowest decides. One unit without a device, f 31: 8, 9, 10, 12 in model 4 with H 1,001 of M 1,000; 9, 10, 12 without hot water; 10, 12 in model 3.
@@ -250,7 +258,7 @@ cases = casesAtoL ++ casesByHand
 
 pub all-cases : map given cases ≡ map expected cases
 unfolding cases casesAtoL casesByHand
-    unitBytes joined sheetBytes inBytes unitsD unitsE partlyMetered waterSheet everyEighth whole answer monthA heats pool hotWaterOf billOf
+    unitBytes joined sheetBytes inBytes unitsD unitsE lastTheRest partlyMetered waterSheet everyEighth whole answer monthA heats pool hotWaterOf billOf
     sharesBy all any firstRefusal unitRow rows sheetOf headerTests rowTests rowRules sheetRules
     allMetered meteredSum hasPool totalArea unreadWeight unreadWeights poolWeight readingSum readArea readSurface areaWeight surfaceWeight readWeight readWeights unitsOfClass litresOfClass1 personsOfClass2 waterWeight
     splitBy inUnitOrder unitByUnit hotWater spaceHeat heatParts poolShares readShares heat commonHeat waterParts water commonWater energies

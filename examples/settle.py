@@ -1,0 +1,98 @@
+"""From plain fields to a statement: case A of document 01 as a sheet's bytes (docs/FORMAT.md), settled, and printed as
+the program `statement` prints it; then the same month with a fault in its third row.
+
+The first argument is the library's shared object.
+"""
+
+import ctypes
+import re
+import struct
+import sys
+from pathlib import Path
+
+HEADER = Path(__file__).parent.parent / "include" / "heatcost.h"
+# The header's lines of text, in the order of the numbers.
+TEXTS = re.findall(r'case HEATCOST_\w+: return "(.*)";', HEADER.read_text())
+
+UNIT_FIELDS = (
+    "id status water_class location_factor heated_area riser_surface heat_load reading litres persons".split()
+)
+
+
+def unit(id, heated_area, reading):
+    """A unit with location factor 1 and all other fields 0."""
+    fields = dict.fromkeys(UNIT_FIELDS, 0)
+    return fields | dict(id=id, location_factor=1000, heated_area=heated_area, reading=reading)
+
+
+CASE_A = dict(
+    month=1,
+    model=3,
+    water_source=0,
+    base_percent=30,
+    common_heat_percent=20,
+    common_water_percent=0,
+    unmetered_factor=30,
+    loss_factor=0,
+    shared_meter=1_000_000,
+    price=10_000,
+    water_readings=[0] * 6,
+    units=[unit(11, 500, 100), unit(12, 500, 300), unit(13, 1000, 600)],
+)
+
+
+def sheet_bytes(month):
+    sheet = struct.pack(
+        "<4sHBBHBBBBBBII6I",
+        b"HCS\0",
+        1,
+        month["month"],
+        month["model"],
+        len(month["units"]),
+        month["water_source"],
+        month["base_percent"],
+        month["common_heat_percent"],
+        month["common_water_percent"],
+        month["unmetered_factor"],
+        month["loss_factor"],
+        month["shared_meter"],
+        month["price"],
+        *month["water_readings"],
+    )
+    for fields in month["units"]:
+        sheet += struct.pack("<IBBHIIIIIHH", *(fields[name] for name in UNIT_FIELDS), 0)
+    return sheet
+
+
+def settle_and_print(library, month):
+    sheet = sheet_bytes(month)
+    units = month["units"]
+    # A unit's numbers are four Wh, then four cents; all cents add to the bill.
+    statement = (ctypes.c_uint32 * (8 * len(units)))()
+    answer = library.heatcost_settle(sheet, len(sheet), statement, len(statement))
+    place, number = divmod(answer, 256)
+    if number != 0:
+        print(f"refused {number} {place}: {TEXTS[number]}")
+        return
+    rows = [statement[8 * i : 8 * i + 8] for i in range(len(units))]
+    bill = sum(sum(row[4:]) for row in rows)
+    print(f"month {month['month']} units {len(units)} wh {month['shared_meter']} cents {bill}")
+    for fields, row in zip(units, rows):
+        print(fields["id"], *row)
+
+
+def main():
+    library = ctypes.CDLL(sys.argv[1])
+    library.heatcost_settle.restype = ctypes.c_uint32
+    library.heatcost_settle.argtypes = [
+        ctypes.c_char_p,
+        ctypes.c_size_t,
+        ctypes.POINTER(ctypes.c_uint32),
+        ctypes.c_size_t,
+    ]
+    settle_and_print(library, CASE_A)
+    faulty = CASE_A["units"][:2] + [CASE_A["units"][2] | dict(location_factor=0)]
+    settle_and_print(library, CASE_A | dict(units=faulty))
+
+
+main()
