@@ -109,3 +109,23 @@ fn random_records() {
         }
     }
 }
+
+/// docs/FORMAT.md: a change that leaves the settlement as it is isn't found.
+#[test]
+fn single_bits_of_case_a_that_are_not_found() {
+    let record = record_of(&build_sheet(&case_a()), 3);
+    let mut passed = Vec::new();
+    for bit in 0..8 * record.len() {
+        let mut changed = record.clone();
+        changed[bit / 8] ^= 1 << (bit % 8);
+        if read_record(&changed).number == 0 {
+            passed.push(bit / 8);
+        }
+    }
+    assert_eq!((8 * record.len(), passed.len()), (1984, 132));
+    // In the header month, source and f; in a row id, s and q.
+    let header = |place: usize| [6, 10, 14].contains(&place);
+    let row = |place: usize| [0..4, 12..20].iter().any(|field| field.contains(&place));
+    let named = |place: usize| header(place) || place >= 48 && row((place - 48) % 32);
+    assert!(passed.iter().all(|&byte| named(byte - 8)));
+}
