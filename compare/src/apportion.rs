@@ -1,7 +1,5 @@
 //! Document 01, "Dividing": the largest-remainder method.
 
-use crate::wrong::dividing as wrong;
-
 /// Divides `total` by `weights`. With a weight sum of 0 every share is 0.
 ///
 /// The total is below 2^32, so that every share fits 32 bits.
@@ -9,9 +7,6 @@ pub fn apportion(total: u64, weights: &[u64]) -> Vec<u32> {
     let weight_sum: u128 = weights.iter().map(|&weight| u128::from(weight)).sum();
     if weight_sum == 0 {
         return vec![0; weights.len()];
-    }
-    if let Some(shares) = wrong::shares(total, weights, weight_sum) {
-        return shares;
     }
     let products: Vec<u128> = weights
         .iter()
@@ -26,7 +21,7 @@ pub fn apportion(total: u64, weights: &[u64]) -> Vec<u32> {
         .map(|product| product % weight_sum)
         .collect();
     let leftover = u128::from(total) - shares.iter().sum::<u128>();
-    for place in takers(weights, &remainders, leftover as usize) {
+    for place in takers(&remainders, leftover as usize) {
         shares[place] += 1;
     }
     shares
@@ -37,12 +32,9 @@ pub fn apportion(total: u64, weights: &[u64]) -> Vec<u32> {
 
 /// Who gets one of the leftover each: the largest remainders, ties to the
 /// earlier item.
-fn takers(weights: &[u64], remainders: &[u128], leftover: usize) -> Vec<usize> {
-    if let Some(places) = wrong::takers(weights, remainders, leftover) {
-        return places;
-    }
+fn takers(remainders: &[u128], leftover: usize) -> Vec<usize> {
     // A stable sort keeps the earlier of two equal remainders in front.
-    let mut order: Vec<usize> = (0..weights.len()).collect();
+    let mut order: Vec<usize> = (0..remainders.len()).collect();
     order.sort_by(|&a, &b| remainders[b].cmp(&remainders[a]));
     order.truncate(leftover);
     order

@@ -5,7 +5,6 @@
 use crate::refusal::*;
 use crate::settle::{settle_bytes, Outcome};
 use crate::sheet::{check, read_sheet, MAX_UNITS, ROW_BYTES};
-use crate::wrong::book as wrong;
 
 pub const BOOK_LEN: usize = 15_557;
 pub const UNIT_COUNT: usize = 0;
@@ -25,16 +24,14 @@ pub struct YearSums {
 
 /// Refusals 15 (by length) and 1 to 7.
 pub fn open(list: &mut [u32], sheet: &[u8]) -> Result<(), Refusal> {
-    wrong::before_opening(list, sheet)?;
     refuse_if(list.len() != BOOK_LEN, BAD_YEAR_BOOK)?;
     check(sheet, ROW_BYTES)?;
     let units = read_sheet(sheet).units;
-    wrong::zeroed(list).fill(0);
+    list.fill(0);
     list[UNIT_COUNT] = units.len() as u32;
     for (place, unit) in units.iter().enumerate() {
         list[IDS + place] = unit.id;
     }
-    wrong::after_opening(list, sheet);
     Ok(())
 }
 
@@ -51,27 +48,19 @@ pub fn replace(list: &mut [u32], sheet: &[u8]) -> Result<(), Refusal> {
 /// Refusals 15 and 17.
 pub fn withdraw(list: &mut [u32], month: u32) -> Result<(), Refusal> {
     check_book(list)?;
-    let month = wrong::withdrawn_month(month);
     let month_posted = (1..=12).contains(&month) && list[MARKS + month as usize - 1] == 1;
-    refuse_if(!month_posted && !wrong::withdraw_passes(month), MONTH_STATE)?;
-    let index = month as usize - 1;
-    let before = wrong::copy(list);
-    write_month(list, index, [0, 0, 0], &[]);
-    wrong::after_withdraw(list, &before, index);
+    refuse_if(!month_posted, MONTH_STATE)?;
+    write_month(list, month as usize - 1, [0, 0, 0], &[]);
     Ok(())
 }
 
 /// Refusals 15 and 18.
 pub fn year(list: &[u32], place: u32) -> Result<YearSums, Refusal> {
-    wrong::place_first(list, place)?;
     check_book(list)?;
-    let right = (place < list[UNIT_COUNT]).then_some(place);
-    let Some(place) = wrong::year_place(list, place).unwrap_or(right) else {
-        return refuse(NO_SUCH_UNIT);
-    };
+    refuse_if(place >= list[UNIT_COUNT], NO_SUCH_UNIT)?;
     let mut answer = YearSums::default();
     for index in 0..12 {
-        if wrong::month_summed(list, index).unwrap_or(list[MARKS + index] == 1) {
+        if list[MARKS + index] == 1 {
             answer.months += 1;
             let start = BLOCKS + BLOCK_LEN * index + 8 * place as usize;
             for (sum, &number) in answer.sums.iter_mut().zip(&list[start..start + 8]) {
@@ -79,15 +68,13 @@ pub fn year(list: &[u32], place: u32) -> Result<YearSums, Refusal> {
             }
         }
     }
-    Ok(wrong::year_answer(list, answer))
+    Ok(answer)
 }
 
 /// The year call into a list of 9 numbers, k and the sums: refusals 15, 13 and 18.
 pub fn year_into(list: &[u32], place: u32, totals: &mut [u64]) -> Result<(), Refusal> {
-    let fits = totals.len() == 9;
-    wrong::before_year_list(list, place, fits)?;
     check_book(list)?;
-    refuse_if(!fits, BUFFER_LENGTH)?;
+    refuse_if(totals.len() != 9, BUFFER_LENGTH)?;
     let answer = year(list, place)?;
     totals[0] = u64::from(answer.months);
     totals[1..].copy_from_slice(&answer.sums);
@@ -96,37 +83,30 @@ pub fn year_into(list: &[u32], place: u32, totals: &mut [u64]) -> Result<(), Ref
 
 /// Refusal 15, opening apart.
 pub fn check_book(list: &[u32]) -> Result<(), Refusal> {
-    let right = list.len() != BOOK_LEN
+    let bad = list.len() != BOOK_LEN
         || list[UNIT_COUNT] > MAX_UNITS as u32
         || list[MARKS..METERS].iter().any(|&mark| mark > 1);
-    refuse_if(wrong::bad_book(list).unwrap_or(right), BAD_YEAR_BOOK)
+    refuse_if(bad, BAD_YEAR_BOOK)
 }
 
 fn enter_month(list: &mut [u32], sheet: &[u8], month_posted: bool) -> Result<(), Refusal> {
-    wrong::before_book(sheet)?;
     check_book(list)?;
-    wrong::before_settling(list, sheet, month_posted)?;
     let outcome = settle_bytes(sheet)?;
     let index = usize::from(outcome.month) - 1;
     let stands = list[MARKS + index] == 1;
-    let month_fits = stands == month_posted || wrong::month_passes(month_posted);
-    let before = wrong::copy(list);
-    wrong::before_refusal(list, &outcome, month_fits);
-    refuse_first([
+    refuse_first(&[
         (OTHER_BUILDING, !same_building(list, &outcome)),
-        (MONTH_STATE, !month_fits),
+        (MONTH_STATE, stands != month_posted),
     ])?;
     let entry = [1, outcome.shared_meter_wh, outcome.bill_cents];
     write_month(list, index, entry, &outcome.numbers);
-    wrong::after_entry(list, &before, &outcome, month_posted);
     Ok(())
 }
 
 /// Refusal 16 looks at n and the first n ids.
 fn same_building(list: &[u32], outcome: &Outcome) -> bool {
-    let right = list[UNIT_COUNT] as usize == outcome.unit_count
-        && list[IDS..IDS + outcome.unit_count] == outcome.ids;
-    wrong::same_building(list, outcome).unwrap_or(right)
+    list[UNIT_COUNT] as usize == outcome.unit_count
+        && list[IDS..IDS + outcome.unit_count] == outcome.ids
 }
 
 /// Writes mark, M, bill and block of a month; the block is 0 after `numbers`.

@@ -102,7 +102,7 @@ fn bill_near_half(rng: &mut Rng, sheet: &mut Sheet) {
     sheet.header.shared_meter_wh = near(rng, half);
 }
 
-/// An id next to the one before it, sometimes in a row with a wrong field.
+/// An id next to the one before it, sometimes in a row with a bad field.
 fn id_near_the_one_before(rng: &mut Rng, sheet: &mut Sheet) {
     if sheet.units.len() < 2 {
         sheet.units[0].id = 0;

@@ -28,8 +28,9 @@
 //!
 //! All numbers in `stdin` are little-endian. `cargo test --release` runs the
 //! document's cases and the random checks. `compare/run` compares the library
-//! with this crate; `wrong` has the wrong readings that it must find, and
-//! `fast` the form that the library's times stand beside.
+//! with this crate, and with a copy of it under wrong readings of the document
+//! (`compare/wrong`), which it must find; `fast` is the form that the library's
+//! times stand beside.
 
 pub mod apportion;
 pub mod book;
@@ -51,4 +52,3 @@ pub mod sheet;
 pub mod vectors;
 pub mod weights;
 pub mod whole;
-pub mod wrong;

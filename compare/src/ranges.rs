@@ -1,7 +1,6 @@
 //! Document 01, "The sheet": the ranges of the fields.
 
 use crate::sheet::MAX_WH;
-use crate::wrong::{self, End};
 
 /// Declares the ranges, and the list of all of them.
 macro_rules! ranges {
@@ -155,31 +154,7 @@ impl Range {
     }
 
     pub fn holds(self, value: impl Into<u32>) -> bool {
-        let (lowest, highest) = wrong::ends(self).unwrap_or(self.ends());
+        let (lowest, highest) = self.ends();
         (lowest..=highest).contains(&value.into())
-    }
-
-    /// This range with one end off by one.
-    pub fn shifted(self, end: End) -> (u32, u32) {
-        let (lowest, highest) = self.ends();
-        match end {
-            End::LowestDown => (lowest - 1, highest),
-            End::LowestUp => (lowest + 1, highest),
-            End::HighestDown => (lowest, highest - 1),
-            End::HighestUp => (lowest, highest + 1),
-        }
-    }
-
-    /// The ends that can be off by one without leaving the range empty.
-    pub fn ends_to_shift(self) -> Vec<End> {
-        let (lowest, highest) = self.ends();
-        let mut ends = vec![End::HighestUp];
-        if lowest > 0 {
-            ends.push(End::LowestDown);
-        }
-        if lowest < highest {
-            ends.extend([End::LowestUp, End::HighestDown]);
-        }
-        ends
     }
 }

@@ -1,7 +1,5 @@
 //! Document 01, "Refused sheets and calls": numbers and places.
 
-use crate::wrong;
-
 /// A refusal's number, and its place: the row for 6 and 7, else 0.
 #[derive(Clone, Copy, Debug, PartialEq, Eq)]
 pub struct Refusal {
@@ -53,13 +51,12 @@ pub fn refuse<T>(number: u32) -> Result<T, Refusal> {
 
 /// A refusal at the row `row`.
 pub fn refuse_at<T>(number: u32, row: usize) -> Result<T, Refusal> {
-    let place = wrong::sheet::place(row).unwrap_or(row as u32);
+    let place = row as u32;
     Err(Refusal { number, place })
 }
 
 /// The first test that holds refuses, with its number.
-pub fn refuse_first<const N: usize>(mut tests: [(u32, bool); N]) -> Result<(), Refusal> {
-    wrong::sheet::reorder(&mut tests);
+pub fn refuse_first(tests: &[(u32, bool)]) -> Result<(), Refusal> {
     match tests.iter().find(|(_, fault)| *fault) {
         Some(&(number, _)) => refuse(number),
         None => Ok(()),

@@ -4,8 +4,6 @@ use crate::apportion::apportion;
 use crate::refusal::*;
 use crate::sheet::{check, read_sheet, Sheet, ROW_BYTES};
 use crate::weights::*;
-use crate::wrong::heat::Split;
-use crate::wrong::{self, misread, Reading};
 
 /// A settled month. `numbers` is the statement, eight numbers a unit.
 #[derive(Clone, Debug, PartialEq, Eq)]
@@ -20,11 +18,8 @@ pub struct Outcome {
 
 /// Settles a sheet for a statement list of `list_len` numbers: refusals 1 to 13.
 pub fn settle(bytes: &[u8], list_len: usize) -> Result<Outcome, Refusal> {
-    wrong::sheet::list_first(bytes, list_len)?;
     let outcome = settle_bytes(bytes)?;
-    let fits = list_len == 8 * outcome.unit_count
-        || misread(Reading::LongerList) && list_len > 8 * outcome.unit_count;
-    refuse_if(!fits, BUFFER_LENGTH)?;
+    refuse_if(list_len != 8 * outcome.unit_count, BUFFER_LENGTH)?;
     Ok(outcome)
 }
 
@@ -52,9 +47,6 @@ pub fn settle_sheet(sheet: &Sheet) -> Result<Outcome, Refusal> {
 
 /// Per unit four Wh, four cents.
 fn statement(energies: &[[u32; 4]], costs: &[[u32; 4]]) -> Vec<u32> {
-    if let Some(numbers) = wrong::bill::statement(energies, costs) {
-        return numbers;
-    }
     let units = energies.iter().zip(costs);
     units
         .flat_map(|(wh, cents)| [*wh, *cents])
@@ -66,7 +58,7 @@ fn statement(energies: &[[u32; 4]], costs: &[[u32; 4]]) -> Vec<u32> {
 /// then it passes the shared meter too.
 pub fn hot_water_wh(sheet: &Sheet) -> u64 {
     let (upper, lower) = hot_water(&sheet.header);
-    wrong::water::rounded_water(upper, lower).unwrap_or(upper.div_ceil(lower))
+    upper.div_ceil(lower)
 }
 
 /// Step 1: EG = M − H.
@@ -76,7 +68,7 @@ fn space_heat(sheet: &Sheet) -> u64 {
 
 /// Refusals 8 to 12.
 fn check_month(sheet: &Sheet) -> Result<(), Refusal> {
-    refuse_first([
+    refuse_first(&[
         (HOT_WATER_EXCEEDS_METER, hot_water_exceeds(sheet)),
         (ZERO_DIVISOR, zero_divisor(sheet)),
         (NO_READINGS, no_readings(sheet)),
@@ -87,60 +79,50 @@ fn check_month(sheet: &Sheet) -> Result<(), Refusal> {
 
 /// Refusal 8.
 fn hot_water_exceeds(sheet: &Sheet) -> bool {
-    let right = hot_water_wh(sheet) > u64::from(sheet.header.shared_meter_wh);
-    wrong::refusals::hot_water_exceeds(sheet).unwrap_or(right)
+    hot_water_wh(sheet) > u64::from(sheet.header.shared_meter_wh)
 }
 
 /// Refusal 9.
 fn zero_divisor(sheet: &Sheet) -> bool {
-    let has_water = hot_water_wh(sheet) > 0 || wrong::refusals::without_water();
-    has_water && no_water_divisor(sheet) || no_heat_divisor(sheet)
+    (hot_water_wh(sheet) > 0 && no_water_divisor(sheet)) || no_heat_divisor(sheet)
 }
 
 fn no_water_divisor(sheet: &Sheet) -> bool {
     let classes = water_classes(sheet);
-    let right = classes.volume_units + classes.person_units == 0
+    classes.volume_units + classes.person_units == 0
         || (classes.volume_units > 0 && classes.litres == 0)
         || (classes.person_units > 0 && classes.persons == 0)
-        || (sheet.header.common_water_percent > 0 && classes.all_persons == 0);
-    wrong::refusals::no_water_divisor(sheet, &classes).unwrap_or(right)
+        || (sheet.header.common_water_percent > 0 && classes.all_persons == 0)
 }
 
 fn no_heat_divisor(sheet: &Sheet) -> bool {
-    let right = match sheet.header.model {
+    match sheet.header.model {
         1 => sum(&sheet.units, heat_load) == 0,
         4 => sum(read_units(sheet), riser_surface) == 0,
         _ => false,
-    };
-    wrong::refusals::no_heat_divisor(sheet).unwrap_or(right)
+    }
 }
 
 /// Refusal 10.
 fn no_readings(sheet: &Sheet) -> bool {
-    let right = sheet.header.model >= 3 && read_units(sheet).next().is_none();
-    wrong::refusals::no_readings(sheet).unwrap_or(right)
+    sheet.header.model >= 3 && read_units(sheet).next().is_none()
 }
 
 /// Refusal 11: C > M − H.
 fn meters_exceed(sheet: &Sheet) -> bool {
     let needed = sum(&sheet.units, reading) + hot_water_wh(sheet);
-    let right = all_metered(sheet) && needed > u64::from(sheet.header.shared_meter_wh);
-    wrong::refusals::meters_exceed(sheet).unwrap_or(right)
+    all_metered(sheet) && needed > u64::from(sheet.header.shared_meter_wh)
 }
 
 /// Refusal 12.
 fn unmetered_exceeds(sheet: &Sheet) -> bool {
     let unread_sum: u64 = unread_weights(sheet).iter().sum();
-    let right = sheet.header.model >= 3 && unread_sum > whole_weight(sheet);
-    wrong::refusals::unmetered_exceeds(sheet).unwrap_or(right)
+    sheet.header.model >= 3 && unread_sum > whole_weight(sheet)
 }
 
 /// Divides `total` by (100 − percent, percent).
-fn split(kind: Split, total: u64, percent: u8) -> (u64, u64) {
+fn split(total: u64, percent: u8) -> (u64, u64) {
     let percent = u64::from(percent);
-    if let Some(parts) = wrong::heat::split(kind, total, percent) {
-        return parts;
-    }
     let parts = apportion(total, &[100 - percent, percent]);
     (u64::from(parts[0]), u64::from(parts[1]))
 }
@@ -152,11 +134,11 @@ fn energies(sheet: &Sheet) -> Vec<[u32; 4]> {
         (heat, space_heat(sheet) - sum(&sheet.units, reading))
     } else {
         let percent = sheet.header.common_heat_percent;
-        let (unit_heat, common_heat) = split(Split::Heat, space_heat(sheet), percent);
+        let (unit_heat, common_heat) = split(space_heat(sheet), percent);
         (heat_parts(sheet, unit_heat), common_heat)
     };
     let percent = sheet.header.common_water_percent;
-    let (unit_water, common_water) = split(Split::Water, hot_water_wh(sheet), percent);
+    let (unit_water, common_water) = split(hot_water_wh(sheet), percent);
 
     let common_heat = apportion(common_heat, &common_heat_weights(sheet));
     let water = apportion(unit_water, &unit_water_weights(sheet));
@@ -179,15 +161,13 @@ fn heat_parts(sheet: &Sheet, unit_heat: u64) -> Vec<u32> {
 fn metered_heat_parts(sheet: &Sheet, unit_heat: u64) -> Vec<u32> {
     let mut heat = vec![0; sheet.units.len()];
     let mut weights = unread_weights(sheet);
-    weights.push(whole_weight(sheet).saturating_sub(weights.iter().sum::<u64>()));
-    let mut parts = wrong::heat::pool_shares(unit_heat, &weights)
-        .unwrap_or_else(|| apportion(unit_heat, &weights));
+    weights.push(whole_weight(sheet) - weights.iter().sum::<u64>());
+    let mut parts = apportion(unit_heat, &weights);
     let metered_pool = parts.pop().expect("the pool is the last item");
     for (place, part) in unread_places(sheet).into_iter().zip(parts) {
         heat[place] = part;
     }
-    let mut parts = apportion(u64::from(metered_pool), &read_weights(sheet));
-    wrong::heat::limit_shares(sheet, u64::from(metered_pool), &mut parts);
+    let parts = apportion(u64::from(metered_pool), &read_weights(sheet));
     for (place, part) in read_places(sheet).into_iter().zip(parts) {
         heat[place] = part;
     }
@@ -197,18 +177,14 @@ fn metered_heat_parts(sheet: &Sheet, unit_heat: u64) -> Vec<u32> {
 /// Step 7: M × price / 1,000,000 in cents, half up.
 pub fn bill(sheet: &Sheet) -> u32 {
     let cost = u64::from(sheet.header.shared_meter_wh) * u64::from(sheet.header.price);
-    let cents = wrong::bill::bill(cost).unwrap_or((cost + 500_000) / 1_000_000);
+    let cents = (cost + 500_000) / 1_000_000;
     u32::try_from(cents).expect("at most 400,000,000")
 }
 
 /// Step 7: the bill over the 4n energies, unit by unit.
 fn costs(bill_cents: u32, energies: &[[u32; 4]]) -> Vec<[u32; 4]> {
-    let bill = u64::from(bill_cents);
-    if let Some(costs) = wrong::bill::costs(bill, energies) {
-        return costs;
-    }
     let weights: Vec<u64> = energies.iter().flatten().map(|&wh| u64::from(wh)).collect();
-    apportion(bill, &weights)
+    apportion(u64::from(bill_cents), &weights)
         .chunks(4)
         .map(|four| [four[0], four[1], four[2], four[3]])
         .collect()

@@ -2,7 +2,6 @@
 
 use crate::ranges::Range;
 use crate::refusal::*;
-use crate::wrong::sheet as wrong;
 
 pub const HEADER_BYTES: usize = 48;
 pub const ROW_BYTES: usize = 32;
@@ -158,12 +157,9 @@ pub fn check(bytes: &[u8], unit_bytes: usize) -> Result<(), Refusal> {
     let header = read_header(bytes);
     let count = usize::from(header.unit_count);
     let length = HEADER_BYTES + unit_bytes * count;
-    let length = wrong::length(bytes, unit_bytes, count).unwrap_or(length);
-    let mark_fits = bytes[0..4] == *b"HCS\0" || wrong::mark_passes(bytes);
-    let version_fits = get_u16(bytes, 4) == 1 || wrong::version_passes(bytes);
-    refuse_first([
-        (BAD_MAGIC, !mark_fits),
-        (UNSUPPORTED_VERSION, !version_fits),
+    refuse_first(&[
+        (BAD_MAGIC, bytes[0..4] != *b"HCS\0"),
+        (UNSUPPORTED_VERSION, get_u16(bytes, 4) != 1),
         (HEADER_FIELD, !header_in_range(&header)),
         (WRONG_LENGTH, bytes.len() != length),
     ])?;
@@ -172,15 +168,12 @@ pub fn check(bytes: &[u8], unit_bytes: usize) -> Result<(), Refusal> {
 
 /// Refusals 6 and 7, row by row.
 fn check_rows(sheet: &Sheet) -> Result<(), Refusal> {
-    if let Some(answer) = wrong::check_rows(&sheet.header, &sheet.units) {
-        return answer;
-    }
     let mut id_before = None;
     for (row, unit) in sheet.units.iter().enumerate() {
         if !unit_in_range(&sheet.header, unit) {
             return refuse_at(ROW_FIELD, row);
         }
-        if id_before.is_some_and(|before| unit.id <= before && !wrong::id_passes(unit.id, before)) {
+        if id_before.is_some_and(|before| unit.id <= before) {
             return refuse_at(ID_ORDER, row);
         }
         id_before = Some(unit.id);
@@ -257,11 +250,11 @@ pub fn unit_in_range(header: &Header, unit: &Unit) -> bool {
     let reading = match (header.model, unit.status) {
         (3 | 4, 0) => Range::ReadingModels3And4,
         (5, 0) => Range::ReadingModel5,
-        _ => wrong::reading_range(header).unwrap_or(Range::ReadingElse),
+        _ => Range::ReadingElse,
     };
     let litres = match unit.water_class {
         1 => Range::LitresClass1,
-        _ => wrong::litres_range(unit).unwrap_or(Range::LitresElse),
+        _ => Range::LitresElse,
     };
     let persons = match unit.water_class {
         0 => Range::PersonsClass0,

@@ -4,13 +4,9 @@
 //! unrounded portions both use them.
 
 use crate::sheet::{Header, Sheet, Unit};
-use crate::wrong;
 
 /// Step 1: hot water before rounding, as upper and lower number of a fraction.
 pub fn hot_water(header: &Header) -> (u64, u64) {
-    if let Some(fraction) = wrong::water::hot_water(header) {
-        return fraction;
-    }
     let inputs = header.hot_water_inputs.map(u64::from);
     match header.source {
         0 => (0, 1),
@@ -22,8 +18,7 @@ pub fn hot_water(header: &Header) -> (u64, u64) {
 
 /// Step 2's exception: model 5 and every unit read.
 pub fn all_metered(sheet: &Sheet) -> bool {
-    let right = sheet.header.model == 5 && sheet.units.iter().all(is_read);
-    wrong::heat::all_metered(sheet).unwrap_or(right)
+    sheet.header.model == 5 && sheet.units.iter().all(is_read)
 }
 
 pub fn is_read(unit: &Unit) -> bool {
@@ -93,11 +88,10 @@ fn places(sheet: &Sheet, wanted: fn(&Unit) -> bool) -> Vec<usize> {
 /// not read.
 pub fn unread_weights(sheet: &Sheet) -> Vec<u64> {
     let unmetered_factor = u64::from(sheet.header.unmetered_factor);
-    let right = |unit: &Unit| match unit.status {
+    let weight = |unit: &Unit| match unit.status {
         1 | 4 => heated_area(unit) * location_factor(unit) * unmetered_factor,
         _ => heated_area(unit) * 10_000,
     };
-    let weight = |unit| wrong::heat::unread_weight(sheet, unit).unwrap_or_else(|| right(unit));
     unread_places(sheet)
         .into_iter()
         .map(|place| weight(&sheet.units[place]))
@@ -107,18 +101,15 @@ pub fn unread_weights(sheet: &Sheet) -> Vec<u64> {
 /// Step 3: the weight of all heat, 10,000 × P. The metered pool has what the
 /// units not read leave of it.
 pub fn whole_weight(sheet: &Sheet) -> u64 {
-    let right = 10_000 * sum(&sheet.units, heated_area);
-    wrong::heat::whole_weight(sheet).unwrap_or(right)
+    10_000 * sum(&sheet.units, heated_area)
 }
 
 /// Step 3, models 1 and 2: by q, by p.
 pub fn unmetered_model_weights(sheet: &Sheet) -> Vec<u64> {
-    let field = if sheet.header.model == 1 {
-        heat_load
-    } else {
-        heated_area
-    };
-    wrong::heat::unmetered_model_weights(sheet).unwrap_or_else(|| column(sheet, field))
+    match sheet.header.model {
+        1 => column(sheet, heat_load),
+        _ => column(sheet, heated_area),
+    }
 }
 
 /// Step 4: B, and A or for model 4 S.
@@ -138,10 +129,9 @@ fn basis(sheet: &Sheet, unit: &Unit) -> u64 {
 
 /// Step 4: the weights of the read units, models 3 to 5.
 pub fn read_weights(sheet: &Sheet) -> Vec<u64> {
-    let basis_sum = read_units(sheet).map(|unit| basis(sheet, unit)).sum();
     let sums = ReadSums {
         readings: sum(read_units(sheet), reading),
-        basis: wrong::heat::basis_sum(sheet).unwrap_or(basis_sum),
+        basis: read_units(sheet).map(|unit| basis(sheet, unit)).sum(),
     };
     read_units(sheet)
         .map(|unit| read_weight(sheet, unit, sums))
@@ -149,18 +139,15 @@ pub fn read_weights(sheet: &Sheet) -> Vec<u64> {
 }
 
 fn read_weight(sheet: &Sheet, unit: &Unit, sums: ReadSums) -> u64 {
-    let base_percent = u64::from(sheet.header.base_percent);
-    let mut r = (100 - base_percent) * reading(unit) * sums.basis
-        + base_percent * basis(sheet, unit) * sums.readings;
-    if let Some(weight) = wrong::heat::read_weight(sheet, unit, sums, r) {
-        return weight;
-    }
     if sums.readings == 0 {
         return basis(sheet, unit) * location_factor(unit);
     }
     if sheet.header.model == 5 {
         return reading(unit);
     }
+    let base_percent = u64::from(sheet.header.base_percent);
+    let mut r = (100 - base_percent) * reading(unit) * sums.basis
+        + base_percent * basis(sheet, unit) * sums.readings;
     if sheet.header.model == 3 {
         // Article 8 (6), (7).
         let limit_upper = 300 * heated_area(unit) * sums.readings;
@@ -172,7 +159,7 @@ fn read_weight(sheet: &Sheet, unit: &Unit, sums: ReadSums) -> u64 {
 
 /// Step 5 (article 11): by p over all units.
 pub fn common_heat_weights(sheet: &Sheet) -> Vec<u64> {
-    wrong::heat::common_heat_weights(sheet).unwrap_or_else(|| column(sheet, heated_area))
+    column(sheet, heated_area)
 }
 
 /// What steps 6 and refusal 9 need to know of the two water classes.
@@ -192,37 +179,31 @@ pub fn water_classes(sheet: &Sheet) -> WaterClasses {
     let of_class = |class: u8| move |unit: &&Unit| unit.water_class == class;
     let by_volume = || sheet.units.iter().filter(of_class(1));
     let by_persons = || sheet.units.iter().filter(of_class(2));
-    let right = WaterClasses {
+    WaterClasses {
         volume_units: by_volume().count() as u64,
         person_units: by_persons().count() as u64,
         litres: sum(by_volume(), litres),
         persons: sum(by_persons(), persons),
         all_persons: sum(by_volume(), persons) + sum(by_persons(), persons),
-    };
-    wrong::water::water_classes(sheet, right)
+    }
 }
 
 /// Step 6, units' water (article 12).
 pub fn unit_water_weights(sheet: &Sheet) -> Vec<u64> {
     let classes = water_classes(sheet);
     let both = classes.volume_units > 0 && classes.person_units > 0;
-    let right = |unit: &Unit| match (unit.water_class, both) {
+    let weight = |unit: &Unit| match (unit.water_class, both) {
         (1, true) => classes.volume_units * litres(unit) * classes.persons,
         (1, false) => litres(unit),
         (2, true) => classes.person_units * persons(unit) * classes.litres,
         (2, false) => persons(unit),
         _ => 0,
     };
-    let weight =
-        |unit| wrong::water::unit_water_weight(&classes, unit).unwrap_or_else(|| right(unit));
     sheet.units.iter().map(weight).collect()
 }
 
 /// Step 6, common water (article 13).
 pub fn common_water_weights(sheet: &Sheet) -> Vec<u64> {
-    if let Some(weights) = wrong::water::common_water_weights(sheet) {
-        return weights;
-    }
     let weight = |unit: &Unit| match unit.water_class {
         1 | 2 => persons(unit),
         _ => 0,

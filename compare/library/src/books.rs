@@ -1,27 +1,29 @@
 //! Lists of calls on one year book.
 
 use crate::calls;
-use crate::difference::{answer, same, Compared};
+use crate::difference::{same, Compared};
 use crate::inputs::{random_book, random_bytes};
+use crate::side::{answer, Side};
 use crate::tally::Tally;
-use compare::book::{self, BOOK_LEN};
+use compare::book::BOOK_LEN;
 use compare::calls::{random_call, sheet_of_building, Call};
 use compare::plain_book::PlainBook;
 use compare::rng::Rng;
 use compare::samples::random_ids;
-use compare::wrong::rightly;
 
 const CALLS_A_BOOK: u64 = 60;
 
 /// The same book on both sides.
-struct Books {
+struct Books<'a> {
+    side: &'a Side,
     ours: Vec<u32>,
     theirs: Vec<u32>,
 }
 
-impl Books {
-    fn new(book: Vec<u32>) -> Books {
+impl Books<'_> {
+    fn new(side: &Side, book: Vec<u32>) -> Books<'_> {
         Books {
+            side,
             theirs: book.clone(),
             ours: book,
         }
@@ -35,7 +37,7 @@ impl Books {
 
     fn open(&mut self, sheet: &[u8], tally: &mut Tally) -> Compared<u32> {
         let input = self.input(sheet);
-        let expected = answer(&book::open(&mut self.ours, sheet));
+        let expected = (self.side.open)(&mut self.ours, sheet);
         let number = calls::open(&mut self.theirs, sheet);
         tally.count("open", number);
         self.agree(["open", "open: book"], &input, expected, number)
@@ -52,7 +54,7 @@ impl Books {
 
     fn post(&mut self, sheet: &[u8], tally: &mut Tally) -> Compared<u32> {
         let input = self.input(sheet);
-        let expected = answer(&book::post(&mut self.ours, sheet));
+        let expected = (self.side.post)(&mut self.ours, sheet);
         let number = calls::post(&mut self.theirs, sheet);
         tally.count("post", number);
         self.agree(["post", "post: book"], &input, expected, number)
@@ -60,7 +62,7 @@ impl Books {
 
     fn replace(&mut self, sheet: &[u8], tally: &mut Tally) -> Compared<u32> {
         let input = self.input(sheet);
-        let expected = answer(&book::replace(&mut self.ours, sheet));
+        let expected = (self.side.replace)(&mut self.ours, sheet);
         let number = calls::replace(&mut self.theirs, sheet);
         tally.count("replace", number);
         self.agree(["replace", "replace: book"], &input, expected, number)
@@ -68,7 +70,7 @@ impl Books {
 
     fn withdraw(&mut self, month: u32, tally: &mut Tally) -> Compared<u32> {
         let input = self.input(&month.to_le_bytes());
-        let expected = answer(&book::withdraw(&mut self.ours, month));
+        let expected = (self.side.withdraw)(&mut self.ours, month);
         let number = calls::withdraw(&mut self.theirs, month);
         tally.count("withdraw", number);
         self.agree(["withdraw", "withdraw: book"], &input, expected, number)
@@ -83,7 +85,7 @@ impl Books {
         let mut totals = vec![5; len];
         let mut list = vec![5; len];
         let number = calls::year(&self.theirs, place, &mut totals);
-        let expected = answer(&book::year_into(&self.ours, place, &mut list));
+        let expected = (self.side.year)(&self.ours, place, &mut list);
         tally.count("year", number);
         let input = self.input(&place.to_le_bytes());
         self.agree(["year", "year: book"], &input, expected, number)?;
@@ -106,11 +108,11 @@ impl Books {
 
 /// A book, and calls on it: opened and kept as the calls leave it, or of
 /// random contents and written into between the calls.
-pub fn compare_book(rng: &mut Rng, tally: &mut Tally) -> Compared<()> {
+pub fn compare_book(side: &Side, rng: &mut Rng, tally: &mut Tally) -> Compared<()> {
     let count = 1 + rng.below(4) as usize;
     let ids = random_ids(rng, count);
     if rng.once_in(2) {
-        return compare_opened_book(rng, &ids, tally);
+        return compare_opened_book(side, rng, &ids, tally);
     }
     let len = match rng.below(12) {
         0 => BOOK_LEN - 1,
@@ -118,7 +120,7 @@ pub fn compare_book(rng: &mut Rng, tally: &mut Tally) -> Compared<()> {
         2 => rng.below(300) as usize,
         _ => BOOK_LEN,
     };
-    let mut books = Books::new(random_book(rng, len, &ids));
+    let mut books = Books::new(side, random_book(rng, len, &ids));
     for _ in 0..CALLS_A_BOOK {
         if rng.once_in(20) && len > 40 {
             let place = rng.below(40) as usize;
@@ -126,34 +128,33 @@ pub fn compare_book(rng: &mut Rng, tally: &mut Tally) -> Compared<()> {
             books.ours[place] = value;
             books.theirs[place] = value;
         }
-        let call = rightly(|| random_call(rng, &ids));
+        let call = random_call(rng, &ids);
         books.call(rng, &call, tally)?;
     }
     if rng.once_in(2) {
-        let sheet = rightly(|| random_bytes(rng));
-        books.open(&sheet, tally)?;
+        books.open(&random_bytes(rng), tally)?;
     }
     Ok(())
 }
 
 /// A book that only the calls write, with the plain year book beside it.
-fn compare_opened_book(rng: &mut Rng, ids: &[u32], tally: &mut Tally) -> Compared<()> {
-    let mut books = Books::new(random_book(rng, BOOK_LEN, ids));
-    let sheet = rightly(|| sheet_of_building(rng, ids));
+fn compare_opened_book(side: &Side, rng: &mut Rng, ids: &[u32], tally: &mut Tally) -> Compared<()> {
+    let mut books = Books::new(side, random_book(rng, BOOK_LEN, ids));
+    let sheet = sheet_of_building(rng, ids);
     books.open(&sheet, tally)?;
-    let Ok(mut plain) = rightly(|| PlainBook::open(&sheet)) else {
+    let Ok(mut plain) = PlainBook::open(&sheet) else {
         return Ok(());
     };
     for _ in 0..CALLS_A_BOOK {
-        let call = rightly(|| random_call(rng, ids));
+        let call = random_call(rng, ids);
         let input = books.input(&[]);
         let number = books.call(rng, &call, tally)?;
-        let expected = rightly(|| match &call {
+        let expected = match &call {
             Call::Post(sheet) => answer(&plain.post(sheet)),
             Call::Replace(sheet) => answer(&plain.replace(sheet)),
             Call::Withdraw(month) => answer(&plain.withdraw(*month)),
             Call::Year(_) => number,
-        });
+        };
         same("plain book", &input, expected, number)?;
     }
     compare_with_plain(&books, &plain)
@@ -165,7 +166,7 @@ fn compare_with_plain(books: &Books, plain: &PlainBook) -> Compared<()> {
     for place in 0..=books.theirs[0] {
         let mut totals = [0; 9];
         let number = calls::year(&books.theirs, place, &mut totals);
-        let expected = rightly(|| plain.year(place));
+        let expected = plain.year(place);
         same("plain book: year", &input, answer(&expected), number)?;
         let (k, sums) = expected.unwrap_or((0, [0; 8]));
         let list = [&[u64::from(k)], &sums[..]].concat();

@@ -1,6 +1,5 @@
 //! What a comparison finds.
 
-use compare::refusal::Refusal;
 use std::fmt::Debug;
 
 /// A call on which the two sides differ, with its input.
@@ -42,12 +41,4 @@ pub fn same<T: PartialEq + Debug>(
         library: format!("{library:?}"),
         input: input.to_vec(),
     })
-}
-
-/// The number that a call answers (include/heatcost.h).
-pub fn answer<T>(result: &Result<T, Refusal>) -> u32 {
-    match result {
-        Ok(_) => 0,
-        Err(refusal) => refusal.number + 256 * refusal.place,
-    }
 }

@@ -3,8 +3,8 @@
 //!
 //! - `compare ROUNDS SEED`: every call on random and damaged inputs, answers
 //!   and every element of every list, refused calls included;
-//! - `mutants ROUNDS SEED`: the same with each wrong reading of document 01 in
-//!   the place of the right one; each must be found;
+//! - `mutants ROUNDS SEED`: the same with each wrong reading of document 01
+//!   (`compare/wrong`) in the place of the right one; each must be found;
 //! - `bench SEED`: times beside those of the fast form;
 //! - `repeat SIDE UNITS MODEL TIMES`: forty fixed sheets settled by one side
 //!   only (`library`, `division`, `reciprocal`), for a count of instructions;
@@ -18,9 +18,11 @@ mod difference;
 mod inputs;
 mod mutants;
 mod repeat;
+mod side;
 mod stack;
 mod tally;
 
+use side::PLAIN;
 use std::process::ExitCode;
 use tally::Tally;
 
@@ -31,7 +33,7 @@ fn compare(rounds: u64, seed: u64) -> bool {
         if round > 0 && round % 100_000 == 0 {
             println!("round {round}");
         }
-        if let Err(difference) = comparing::compare_round(seed, round, &mut tally) {
+        if let Err(difference) = comparing::compare_round(&PLAIN, seed, round, &mut tally) {
             println!("seed {seed}, round {round}");
             difference.print();
             return false;

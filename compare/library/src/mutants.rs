@@ -1,9 +1,10 @@
 //! The comparison against every wrong reading: each must be found.
 
 use crate::comparing::compare_round;
+use crate::side::WRONG;
 use crate::tally::Tally;
-use compare::wrong::{with_reading, Reading};
 use std::panic::{catch_unwind, set_hook, take_hook};
+use wrong::{with_reading, Reading};
 
 /// Prints a line a reading; gives back whether all were found.
 pub fn run(rounds: u64, seed: u64) -> bool {
@@ -32,7 +33,7 @@ fn find(reading: Reading, rounds: u64, seed: u64) -> Option<(u64, &'static str)>
     let mut tally = Tally::default();
     for round in 0..rounds {
         let compared = catch_unwind(std::panic::AssertUnwindSafe(|| {
-            with_reading(reading, || compare_round(seed, round, &mut tally))
+            with_reading(reading, || compare_round(&WRONG, seed, round, &mut tally))
         }));
         match compared {
             Ok(Ok(())) => {}

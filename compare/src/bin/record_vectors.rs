@@ -102,9 +102,9 @@ impl Records {
         for length in [0, 1, 7, 8, 9, 55, 56, 57, 151, 152, 153, 183, 184, 216, 247] {
             self.add(good[..length].to_vec());
         }
-        let mut wrong = good[..7].to_vec();
-        wrong[0] = 0;
-        self.add(wrong);
+        let mut bad = good[..7].to_vec();
+        bad[0] = 0;
+        self.add(bad);
         for more in [1, 32, 64] {
             self.add([&good[..], &vec![0; more]].concat());
         }

@@ -1,12 +1,13 @@
 //! Wrong readings of "The sheet" and of the order of refusals.
 
-use super::{current, misread, Reading::*};
 use crate::ranges::Range;
 use crate::refusal::*;
 use crate::sheet::{get_u16, unit_in_range, Header, Unit, HEADER_BYTES};
+use crate::{current, misread, Reading::*};
 
-/// Puts the tests in another order.
-pub fn reorder(tests: &mut [(u32, bool)]) {
+/// The tests in another order.
+pub fn reordered(tests: &[(u32, bool)]) -> Vec<(u32, bool)> {
+    let mut tests = tests.to_vec();
     let (earlier, later) = match current() {
         Some(VersionBeforeMark) => (UNSUPPORTED_VERSION, BAD_MAGIC),
         Some(HeaderBeforeVersion) => (HEADER_FIELD, UNSUPPORTED_VERSION),
@@ -20,12 +21,13 @@ pub fn reorder(tests: &mut [(u32, bool)]) {
         Some(OverchargeBeforeDivisor) => (UNMETERED_EXCEEDS_HEAT, ZERO_DIVISOR),
         Some(OverchargeBeforeUnread) => (UNMETERED_EXCEEDS_HEAT, NO_READINGS),
         Some(MonthBeforeBuilding) => (MONTH_STATE, OTHER_BUILDING),
-        _ => return,
+        _ => return tests,
     };
     let place = |number| tests.iter().position(|test| test.0 == number);
     if let (Some(from), Some(to)) = (place(earlier), place(later)) {
         tests[to..=from].rotate_right(1);
     }
+    tests
 }
 
 /// Whether mark or version pass though they are wrong.
@@ -109,4 +111,12 @@ pub fn list_first(bytes: &[u8], list_len: usize) -> Result<(), Refusal> {
         usize::from(get_u16(bytes, 8))
     };
     refuse_if(misread(ListFirst) && list_len != 8 * count, BUFFER_LENGTH)
+}
+
+/// The length that a statement list is taken to have.
+pub fn taken_len(list_len: usize, wanted: usize) -> usize {
+    if misread(LongerList) {
+        return list_len.min(wanted);
+    }
+    list_len
 }

@@ -1,10 +1,10 @@
 //! Wrong readings of "Year book".
 
-use super::{current, misread, Reading::*};
 use crate::book::*;
 use crate::refusal::*;
 use crate::settle::{settle_bytes, Outcome};
 use crate::sheet::{check, get_u32, read_sheet, ROW_BYTES};
+use crate::{current, misread, Reading::*};
 
 /// Whether a book passes that 15 refuses.
 pub fn bad_book(list: &[u32]) -> Option<bool> {
@@ -49,11 +49,6 @@ pub fn zeroed(list: &mut [u32]) -> &mut [u32] {
         Some(OpeningKeepsBlocks) => &mut list[..BLOCKS],
         _ => list,
     }
-}
-
-/// The book before a call, where a wrong reading needs it.
-pub fn copy(list: &[u32]) -> Vec<u32> {
-    current().map_or(Vec::new(), |_| list.to_vec())
 }
 
 /// What opening does besides.

@@ -1,9 +1,9 @@
 //! Wrong readings of refusals 8 to 12.
 
-use super::{current, misread, Reading::*};
 use crate::settle::hot_water_wh;
 use crate::sheet::Sheet;
 use crate::weights::*;
+use crate::{current, misread, Reading::*};
 
 /// 8.
 pub fn hot_water_exceeds(sheet: &Sheet) -> Option<bool> {

@@ -1,8 +1,8 @@
 //! Wrong readings of "Archive record".
 
-use super::{current, misread, Reading::*};
 use crate::refusal::*;
 use crate::sheet::{check, get_u16, HEADER_BYTES, RECORD_UNIT_BYTES};
+use crate::{current, misread, Reading::*};
 
 /// Whether a head passes.
 pub fn head_passes(record: &[u8], head: [u8; 8]) -> bool {
@@ -77,6 +77,14 @@ pub fn list_first(sheet: &[u8], list_len: usize) -> Result<(), Refusal> {
         misread(RecordListFirst) && list_len != wanted,
         BUFFER_LENGTH,
     )
+}
+
+/// The part of a record list that the writer takes.
+pub fn taken(list: &mut [u8], length: usize) -> &mut [u8] {
+    if misread(LongerRecordList) && list.len() > length {
+        return &mut list[..length];
+    }
+    list
 }
 
 /// A statement number's bytes.

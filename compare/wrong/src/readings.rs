@@ -1,6 +1,6 @@
 //! The list of wrong readings.
 
-use super::End;
+use crate::forms::ranges::{ends_to_shift, shifted, End};
 use crate::ranges::Range;
 
 /// Declares the readings with their descriptions.
@@ -213,7 +213,7 @@ impl Reading {
     pub fn all() -> Vec<Reading> {
         let named = NAMED.iter().map(|&(reading, _)| reading);
         let ends = Range::ALL.iter().flat_map(|&range| {
-            let ends = range.ends_to_shift().into_iter();
+            let ends = ends_to_shift(range).into_iter();
             ends.map(move |end| Reading::Ends(range, end))
         });
         named.chain(ends).collect()
@@ -222,7 +222,7 @@ impl Reading {
     pub fn description(self) -> String {
         match self {
             Reading::Ends(range, end) => {
-                let (lowest, highest) = range.shifted(end);
+                let (lowest, highest) = shifted(range, end);
                 format!("{range:?} from {lowest} to {highest}")
             }
             _ => {

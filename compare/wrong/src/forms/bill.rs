@@ -1,8 +1,8 @@
 //! Wrong readings of step 7 and of the statement.
 
 use super::dividing::half_up_share;
-use super::{current, Reading::*};
 use crate::apportion::apportion;
+use crate::{current, Reading::*};
 
 type Energies = [[u32; 4]];
 

@@ -1,43 +1,15 @@
 //! Wrong readings of steps 2 to 5.
 
-use super::{current, misread, Reading::*};
 use crate::apportion::apportion;
 use crate::sheet::{Sheet, Unit};
 use crate::weights::*;
+use crate::{current, misread, Reading::*};
 
 /// Step 2's exception.
 pub fn all_metered(sheet: &Sheet) -> Option<bool> {
     match current()? {
         MetersNever => Some(false),
         MetersOfSomeUnits => Some(sheet.header.model == 5 && sheet.units.iter().any(is_read)),
-        _ => None,
-    }
-}
-
-/// Which of the two splits into units' and common part.
-#[derive(Clone, Copy)]
-pub enum Split {
-    Heat,
-    Water,
-}
-
-pub fn split(kind: Split, total: u64, percent: u64) -> Option<(u64, u64)> {
-    let divided = |first, second| {
-        let parts = apportion(total, &[first, second]);
-        (u64::from(parts[0]), u64::from(parts[1]))
-    };
-    let common = total * percent / 100;
-    match (current()?, kind) {
-        (HeatSplitSwapped, Split::Heat) | (WaterSplitSwapped, Split::Water) => {
-            Some(divided(percent, 100 - percent))
-        }
-        (HeatCommonFirst, Split::Heat) | (WaterCommonFirst, Split::Water) => {
-            let (common, units) = divided(percent, 100 - percent);
-            Some((units, common))
-        }
-        (HeatCommonDown, Split::Heat) | (WaterCommonDown, Split::Water) => {
-            Some((total - common, common))
-        }
         _ => None,
     }
 }
@@ -108,8 +80,8 @@ pub fn basis_sum(sheet: &Sheet) -> Option<u64> {
     }
 }
 
-/// Step 4: the weight of a read unit. `r` is the unlimited one.
-pub fn read_weight(sheet: &Sheet, unit: &Unit, sums: ReadSums, r: u64) -> Option<u64> {
+/// Step 4: the weight of a read unit.
+pub fn read_weight(sheet: &Sheet, unit: &Unit, sums: ReadSums) -> Option<u64> {
     if sums.readings == 0 {
         return no_reading_weight(sheet, unit);
     }
@@ -118,6 +90,7 @@ pub fn read_weight(sheet: &Sheet, unit: &Unit, sums: ReadSums, r: u64) -> Option
     let (area, riser) = (heated_area(unit), riser_surface(unit));
     let base = u64::from(sheet.header.base_percent);
     let part = |basis| (100 - base) * reading * sums.basis + base * basis * sums.readings;
+    let r = part(if sheet.header.model == 4 { riser } else { area });
     let limited = |r: u64, basis: u64| {
         r.min(300 * basis * sums.readings)
             .max(40 * basis * sums.readings)
@@ -158,14 +131,15 @@ fn no_reading_weight(sheet: &Sheet, unit: &Unit) -> Option<u64> {
 }
 
 /// Step 4: the read units' shares, limited after the division.
-pub fn limit_shares(sheet: &Sheet, pool: u64, shares: &mut [u32]) {
+pub fn limited_shares(sheet: &Sheet, pool: u32, mut shares: Vec<u32>) -> Vec<u32> {
     if misread(LimitsAfterDividing) && sheet.header.model == 3 {
         let by_area: Vec<u64> = read_units(sheet).map(factored_area).collect();
-        for (share, middle) in shares.iter_mut().zip(apportion(pool, &by_area)) {
+        for (share, middle) in shares.iter_mut().zip(apportion(pool.into(), &by_area)) {
             let middle = u64::from(middle);
             *share = u64::from(*share).min(3 * middle).max(2 * middle / 5) as u32;
         }
     }
+    shares
 }
 
 /// Step 5.

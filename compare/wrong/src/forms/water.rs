@@ -1,8 +1,8 @@
 //! Wrong readings of steps 1 and 6.
 
-use super::{current, Reading::*};
 use crate::sheet::{Header, Sheet, Unit};
 use crate::weights::*;
+use crate::{current, Reading::*};
 
 /// Step 1: the fraction of hot water.
 pub fn hot_water(header: &Header) -> Option<(u64, u64)> {
@@ -31,7 +31,7 @@ pub fn rounded_water(upper: u64, lower: u64) -> Option<u64> {
 }
 
 /// Step 6: n1, n2, L, N2.
-pub fn water_classes(sheet: &Sheet, classes: WaterClasses) -> WaterClasses {
+pub fn classes(sheet: &Sheet, classes: WaterClasses) -> WaterClasses {
     match current() {
         Some(ClassZeroInCount) => WaterClasses {
             person_units: sheet.units.len() as u64 - classes.volume_units,
@@ -45,8 +45,9 @@ pub fn water_classes(sheet: &Sheet, classes: WaterClasses) -> WaterClasses {
     }
 }
 
-/// Step 6: a unit's water weight.
-pub fn unit_water_weight(classes: &WaterClasses, unit: &Unit) -> Option<u64> {
+/// Step 6: units' water.
+pub fn unit_water_weights(sheet: &Sheet) -> Option<Vec<u64>> {
+    let classes = water_classes(sheet);
     let both = classes.volume_units > 0 && classes.person_units > 0;
     let (by_litres, by_persons) = match current()? {
         ClassesWithoutCount if both => (classes.persons, classes.litres),
@@ -60,11 +61,12 @@ pub fn unit_water_weight(classes: &WaterClasses, unit: &Unit) -> Option<u64> {
         ),
         _ => return None,
     };
-    match unit.water_class {
-        1 => Some(litres(unit) * by_litres),
-        2 => Some(persons(unit) * by_persons),
-        _ => Some(0),
-    }
+    let weight = |unit: &Unit| match unit.water_class {
+        1 => litres(unit) * by_litres,
+        2 => persons(unit) * by_persons,
+        _ => 0,
+    };
+    Some(sheet.units.iter().map(weight).collect())
 }
 
 /// Step 6: common water.

@@ -1,6 +1,6 @@
 //! Wrong readings of "Dividing".
 
-use super::{current, Reading::*};
+use crate::{current, Reading::*};
 
 /// Shares of a division without a leftover.
 pub fn shares(total: u64, weights: &[u64], weight_sum: u128) -> Option<Vec<u32>> {

@@ -1,0 +1,13 @@
+//! The wrong forms, by spot. A function that finds none of its readings in
+//! force leaves the spot as the plain form has it.
+
+pub mod bill;
+pub mod book;
+pub mod dividing;
+pub mod heat;
+pub mod ranges;
+pub mod record;
+pub mod refusals;
+pub mod sheet;
+pub mod splits;
+pub mod water;

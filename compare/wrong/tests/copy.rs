@@ -1,0 +1,86 @@
+//! With no reading in force the copy answers as the plain form does. The two
+//! have types of their own, so that answers are compared as they print.
+
+use compare::calls::{random_call, sheet_of_building, Call};
+use compare::damage::damaged_sheet;
+use compare::edges::{border_sheet, sheet_at_an_end};
+use compare::rng::Rng;
+use compare::samples::{random_ids, random_sheet};
+use compare::sheet::build_sheet;
+use std::fmt::Debug;
+
+fn same(copy: impl Debug, plain: impl Debug) {
+    assert_eq!(format!("{copy:?}"), format!("{plain:?}"));
+}
+
+fn random_bytes(rng: &mut Rng) -> Vec<u8> {
+    match rng.below(4) {
+        0 => build_sheet(&random_sheet(rng)),
+        1 => border_sheet(rng),
+        2 => sheet_at_an_end(rng),
+        _ => damaged_sheet(rng),
+    }
+}
+
+#[test]
+fn sheets_and_records() {
+    let mut rng = Rng::new(1);
+    for _ in 0..4_000 {
+        let sheet = random_bytes(&mut rng);
+        let list_len = sheet.len().saturating_sub(48) / 4 + rng.below(2) as usize;
+        same(
+            wrong::settle::settle(&sheet, list_len),
+            compare::settle::settle(&sheet, list_len),
+        );
+        let mut copy = vec![3; 8 + 2 * sheet.len().saturating_sub(24)];
+        let mut plain = copy.clone();
+        same(
+            wrong::record::write_record(&sheet, &mut copy),
+            compare::record::write_record(&sheet, &mut plain),
+        );
+        assert_eq!(copy, plain);
+        let place = rng.below(plain.len() as u64) as usize;
+        plain[place] ^= rng.below(2) as u8;
+        same(
+            wrong::record::read_record(&plain),
+            compare::record::read_record(&plain),
+        );
+    }
+}
+
+#[test]
+fn books() {
+    let mut rng = Rng::new(2);
+    for _ in 0..40 {
+        let ids = random_ids(&mut rng, 3);
+        let sheet = sheet_of_building(&mut rng, &ids);
+        let mut copy = vec![7; compare::book::BOOK_LEN];
+        let mut plain = copy.clone();
+        same(
+            wrong::book::open(&mut copy, &sheet),
+            compare::book::open(&mut plain, &sheet),
+        );
+        for _ in 0..60 {
+            let call = random_call(&mut rng, &ids);
+            same_call(&mut copy, &mut plain, &call);
+            assert_eq!(copy, plain);
+        }
+    }
+}
+
+fn same_call(copy: &mut [u32], plain: &mut [u32], call: &Call) {
+    use {compare::book as right, wrong::book as bent};
+    match call {
+        Call::Post(sheet) => same(bent::post(copy, sheet), right::post(plain, sheet)),
+        Call::Replace(sheet) => same(bent::replace(copy, sheet), right::replace(plain, sheet)),
+        Call::Withdraw(month) => same(bent::withdraw(copy, *month), right::withdraw(plain, *month)),
+        Call::Year(place) => {
+            let (mut sums, mut totals) = ([0; 9], [0; 9]);
+            same(
+                bent::year_into(copy, *place, &mut sums),
+                right::year_into(plain, *place, &mut totals),
+            );
+            assert_eq!(sums, totals);
+        }
+    }
+}
