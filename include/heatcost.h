@@ -2,7 +2,7 @@
  * writes. docs/FORMAT.md has the layouts of sheet, statement, record and year book, and for each refusal what to
  * correct. examples/ shows the calls in use.
  *
- * n is the number of units behind the shared meter: bytes 8 and 9 of a sheet, the lower first.
+ * n is the number of units behind the shared meter, 1 to HEATCOST_MAX_UNITS: bytes 8 and 9 of a sheet, the lower first.
  *
  * Lists. A list is a pointer and the count of its elements. The pointer has the alignment of its type; with a count of
  * 0 it may be NULL. Lists that a call only writes (statement, record, totals, the book at opening) need no values
