@@ -8,38 +8,46 @@
 
 #include "heatcost.h"
 
-#define MAX_SHEET HEATCOST_SHEET_LEN(HEATCOST_MAX_UNITS)
 #define MAX_STATEMENT HEATCOST_STATEMENT_LEN(HEATCOST_MAX_UNITS)
 #define MAX_RECORD HEATCOST_RECORD_LEN(HEATCOST_MAX_UNITS)
 
-/* Reads a file into a list of `most` bytes; gives back how many there were, 0 when it can't be read. */
-static size_t read_file(const char *name, uint8_t *bytes, size_t most)
+/* A file's bytes, with room for one more than the longest: a longer file is seen to be longer. */
+struct bytes {
+    uint8_t at[MAX_RECORD + 1];
+    size_t count;
+};
+
+/* Says whether the file could be read. */
+static int read_file(const char *name, struct bytes *bytes)
 {
     FILE *file = fopen(name, "rb");
-    size_t count;
-    if (file == NULL) {
-        perror(name);
-        return 0;
+    int read = 0;
+    if (file != NULL) {
+        bytes->count = fread(bytes->at, 1, sizeof bytes->at, file);
+        read = !ferror(file);
+        fclose(file);
     }
-    count = fread(bytes, 1, most, file);
-    fclose(file);
-    return count;
+    if (!read)
+        perror(name);
+    return read;
 }
 
-/* Says whether all bytes were written. */
-static int write_file(const char *name, const uint8_t *bytes, size_t count)
+/* Says whether all bytes were written. An archive writes to a file of another name, waits until it is on the disk, and
+ * renames it: then a broken write leaves the record before it whole. */
+static int write_file(const char *name, const struct bytes *bytes)
 {
     FILE *file = fopen(name, "wb");
-    size_t written;
-    if (file == NULL) {
-        perror(name);
-        return 0;
+    int written = 0;
+    if (file != NULL) {
+        written = fwrite(bytes->at, 1, bytes->count, file) == bytes->count;
+        written = fclose(file) == 0 && written;
     }
-    written = fwrite(bytes, 1, count, file);
-    return fclose(file) == 0 && written == count;
+    if (!written)
+        perror(name);
+    return written;
 }
 
-/* Prints an answer; says whether it is the number that is wanted. */
+/* Prints an answer; says whether it has the number that is wanted. */
 static int say(const char *what, uint32_t answer, uint32_t wanted)
 {
     printf("%s: ", what);
@@ -49,78 +57,81 @@ static int say(const char *what, uint32_t answer, uint32_t wanted)
     return HEATCOST_NUMBER(answer) == wanted;
 }
 
-/* How many rows a sheet of so many bytes has; of a list of MAX_SHEET + 1 bytes at most 160. */
+/* Prints whether so many bytes are the same; says so too. */
+static int compare(const char *what, const uint8_t *found, const uint8_t *wanted, size_t count)
+{
+    int same = memcmp(found, wanted, count) == 0;
+    printf("%s: %d bytes, %s\n", what, (int)count, same ? "all the same" : "not the same");
+    return same;
+}
+
+/* How many rows a sheet of so many bytes has, at most 160. */
 static size_t units_of(size_t sheet_len)
 {
-    return sheet_len < HEATCOST_SHEET_LEN(0) ? 0 : (sheet_len - HEATCOST_SHEET_LEN(0)) / 32;
+    size_t n = sheet_len < HEATCOST_SHEET_LEN(0) ? 0 : (sheet_len - HEATCOST_SHEET_LEN(0)) / 32;
+    return n < HEATCOST_MAX_UNITS ? n : HEATCOST_MAX_UNITS;
 }
 
-/* The record of a sheet into a file. */
-static int keep(const uint8_t *sheet, size_t sheet_len, const char *name)
+/* Makes the record of a sheet. */
+static int make_record(const struct bytes *sheet, struct bytes *record)
 {
-    static uint8_t record[MAX_RECORD];
-    size_t record_len = HEATCOST_RECORD_LEN(units_of(sheet_len));
-    if (!say("written", heatcost_write_record(sheet, sheet_len, record, record_len), HEATCOST_ACCEPTED))
-        return 0;
-    return write_file(name, record, record_len);
+    record->count = HEATCOST_RECORD_LEN(units_of(sheet->count));
+    return say("record made", heatcost_write_record(sheet->at, sheet->count, record->at, record->count),
+               HEATCOST_ACCEPTED);
 }
 
-/* Whether the statement's numbers are the bytes at a place, four a number, lowest first. */
-static int same_numbers(const uint32_t *numbers, size_t count, const uint8_t *bytes)
+/* Settles the sheet of an accepted record again and compares with the record's statement. */
+static int settle_again(const struct bytes *record, const uint8_t *sheet, size_t sheet_len)
 {
-    size_t i;
-    for (i = 0; i < 4 * count; i++)
-        if (bytes[i] != (numbers[i / 4] >> 8 * (i % 4) & 255))
-            return 0;
-    return 1;
-}
-
-/* The sheet inside the record is the one that was sent, and settles to the record's statement. */
-static int same_again(const uint8_t *record, size_t record_len, const uint8_t *sent, size_t sent_len)
-{
-    static uint32_t statement[MAX_STATEMENT];
-    const uint8_t *sheet = record + 8;
-    size_t sheet_len = (size_t)heatcost_record_sheet_len(record, record_len);
+    uint32_t statement[MAX_STATEMENT];
+    uint8_t bytes[4 * MAX_STATEMENT];
     size_t count = HEATCOST_STATEMENT_LEN(units_of(sheet_len));
-    if (sheet_len != sent_len || memcmp(sheet, sent, sent_len) != 0)
-        return 0;
-    printf("sheet: %d bytes, all as sent\n", (int)sheet_len);
+    size_t i;
     if (!say("settled again", heatcost_settle(sheet, sheet_len, statement, count), HEATCOST_ACCEPTED))
         return 0;
-    if (!same_numbers(statement, count, sheet + sheet_len))
-        return 0;
-    printf("statement: %d bytes, all as kept\n", (int)(4 * count));
-    return 1;
+    for (i = 0; i < 4 * count; i++)
+        bytes[i] = (statement[i / 4] >> (8 * (i % 4))) & 255;
+    return compare("statement", record->at + 8 + sheet_len, bytes, 4 * count);
 }
 
 /* The answer to a record with one byte changed to 255; the byte is put back. */
-static uint32_t damaged(uint8_t *record, size_t record_len, size_t place)
+static uint32_t damaged(struct bytes *record, size_t place)
 {
-    uint8_t kept = record[place];
+    uint8_t kept = record->at[place];
     uint32_t answer;
-    record[place] = 255;
-    answer = heatcost_read_record(record, record_len);
-    record[place] = kept;
+    record->at[place] = 255;
+    answer = heatcost_read_record(record->at, record->count);
+    record->at[place] = kept;
     return answer;
+}
+
+static int morning(const char *sheet_name, const char *record_name)
+{
+    struct bytes sheet, record;
+    size_t sheet_len, last_row;
+    if (!read_file(sheet_name, &sheet) || !make_record(&sheet, &record) || !write_file(record_name, &record))
+        return 0;
+    printf("record written: %d bytes\n", (int)record.count);
+    if (!read_file(record_name, &record))
+        return 0;
+    if (!say("record read back", heatcost_read_record(record.at, record.count), HEATCOST_ACCEPTED))
+        return 0;
+    sheet_len = (size_t)heatcost_record_sheet_len(record.at, record.count);
+    if (sheet_len != sheet.count || !compare("sheet", record.at + 8, sheet.at, sheet_len))
+        return 0;
+    if (!settle_again(&record, record.at + 8, sheet_len))
+        return 0;
+    last_row = 8 + sheet_len - 32;
+    return say("head damaged", damaged(&record, 0), HEATCOST_BAD_ARCHIVE)
+        && say("location factor of the last row damaged", damaged(&record, last_row + 7), HEATCOST_ROW_FIELD)
+        && say("statement damaged", damaged(&record, record.count - 1), HEATCOST_BAD_ARCHIVE);
 }
 
 int main(int argc, char **argv)
 {
-    /* One byte more than the longest, so that a longer file is seen to be longer. */
-    static uint8_t sheet[MAX_SHEET + 1], record[MAX_RECORD + 1];
-    size_t sheet_len, record_len, last_row;
-    if (argc != 3)
+    if (argc != 3 || strcmp(argv[1], argv[2]) == 0) {
+        fprintf(stderr, "usage: morning SHEET RECORD, two files\n");
         return 2;
-    sheet_len = read_file(argv[1], sheet, sizeof sheet);
-    if (!keep(sheet, sheet_len, argv[2]))
-        return 1;
-    record_len = read_file(argv[2], record, sizeof record);
-    if (!say("read back", heatcost_read_record(record, record_len), HEATCOST_ACCEPTED))
-        return 1;
-    if (!same_again(record, record_len, sheet, sheet_len))
-        return 1;
-    last_row = 8 + sheet_len - 32;
-    return !(say("head damaged", damaged(record, record_len, 0), HEATCOST_BAD_ARCHIVE)
-             && say("last row damaged", damaged(record, record_len, last_row + 7), HEATCOST_ROW_FIELD)
-             && say("statement damaged", damaged(record, record_len, record_len - 1), HEATCOST_BAD_ARCHIVE));
+    }
+    return morning(argv[1], argv[2]) ? 0 : 1;
 }

@@ -1,5 +1,5 @@
-/* From plain fields to a statement: case A of document 01 as a sheet's bytes (docs/FORMAT.md), settled, and printed as
- * the program `statement` prints it; then the same month with a fault in its third row. */
+/* From plain fields to a statement: case A of docs/FORMAT.md as a sheet's bytes, settled, and printed as the program
+ * `statement` prints it; then the same month with a fault in its third row. */
 #include <stdio.h>
 
 #include "heatcost.h"
@@ -22,12 +22,14 @@ struct month {
     struct unit units[UNITS];
 };
 
-/* Fields that aren't named are 0. */
 static const struct month case_a = {
+    /* month, model, water source */
     1, 3, 0,
+    /* base, common heat and common water in percent, factor for units without a device in 0.1, loss factor in 0.01 */
     30, 20, 0, 30, 0,
-    1000000, 10000,
-    {0},
+    /* shared meter in Wh, price in 0.00001 EUR/kWh, six hot water readings */
+    1000000, 10000, {0, 0, 0, 0, 0, 0},
+    /* id, status, water class, KF in 0.001, area in 0.1 m2, riser surface, load, reading, litres, persons */
     {
         {11, 0, 0, 1000, 500, 0, 0, 100, 0, 0},
         {12, 0, 0, 1000, 500, 0, 0, 300, 0, 0},

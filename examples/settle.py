@@ -1,7 +1,7 @@
-"""From plain fields to a statement: case A of document 01 as a sheet's bytes (docs/FORMAT.md), settled, and printed as
-the program `statement` prints it; then the same month with a fault in its third row.
+"""From plain fields to a statement: case A of docs/FORMAT.md as a sheet's bytes, settled, and printed as the program
+`statement` prints it; then the same month with a fault in its third row.
 
-The first argument is the library's shared object.
+The argument is the library as a shared object.
 """
 
 import ctypes
@@ -12,17 +12,16 @@ from pathlib import Path
 
 HEADER = Path(__file__).parent.parent / "include" / "heatcost.h"
 # The header's lines of text, in the order of the numbers.
-TEXTS = re.findall(r'case HEATCOST_\w+: return "(.*)";', HEADER.read_text())
+TEXTS = re.findall(r'case HEATCOST_\w+:\s+return "(.*)";', HEADER.read_text(encoding="ascii"))
 
 UNIT_FIELDS = (
     "id status water_class location_factor heated_area riser_surface heat_load reading litres persons".split()
 )
 
 
-def unit(id, heated_area, reading):
-    """A unit with location factor 1 and all other fields 0."""
-    fields = dict.fromkeys(UNIT_FIELDS, 0)
-    return fields | dict(id=id, location_factor=1000, heated_area=heated_area, reading=reading)
+def unit(**fields):
+    """A unit with location factor 1; fields that aren't named are 0."""
+    return dict.fromkeys(UNIT_FIELDS, 0) | dict(location_factor=1000) | fields
 
 
 CASE_A = dict(
@@ -37,7 +36,11 @@ CASE_A = dict(
     shared_meter=1_000_000,
     price=10_000,
     water_readings=[0] * 6,
-    units=[unit(11, 500, 100), unit(12, 500, 300), unit(13, 1000, 600)],
+    units=[
+        unit(id=11, heated_area=500, reading=100),
+        unit(id=12, heated_area=500, reading=300),
+        unit(id=13, heated_area=1000, reading=600),
+    ],
 )
 
 
@@ -81,8 +84,8 @@ def settle_and_print(library, month):
         print(fields["id"], *row)
 
 
-def main():
-    library = ctypes.CDLL(sys.argv[1])
+def main(path):
+    library = ctypes.CDLL(path)
     library.heatcost_settle.restype = ctypes.c_uint32
     library.heatcost_settle.argtypes = [
         ctypes.c_char_p,
@@ -95,4 +98,7 @@ def main():
     settle_and_print(library, CASE_A | dict(units=faulty))
 
 
-main()
+if __name__ == "__main__":
+    if len(sys.argv) != 2:
+        sys.exit("usage: settle.py LIBRARY")
+    main(sys.argv[1])

@@ -1,23 +1,26 @@
-/* Heat cost settlement under the Croatian Regulation NN 140/25: the calls of the archive that `rt staticlib heatcost`
- * writes. docs/FORMAT.md has the layouts of sheet, statement, record and year book, and for each refusal what to
- * correct. examples/ shows the calls in use.
+/* Heat cost settlement under the Croatian Regulation NN 140/25: the calls of libheatcost.a, which `rt staticlib
+ * heatcost` builds for Linux on x86-64. This header is C99 and C++. docs/FORMAT.md has the layouts of sheet,
+ * statement, record and year book, and for each refusal what to correct; examples/ shows the calls in use.
  *
- * n is the number of units behind the shared meter, 1 to HEATCOST_MAX_UNITS: bytes 8 and 9 of a sheet, the lower first.
+ * n is the number of units behind the shared meter, 1 to HEATCOST_MAX_UNITS: bytes 8 and 9 of a sheet, low byte first.
+ * A sheet has a month, but neither year nor building: keep these beside it, for example in a file's name.
  *
- * Lists. A list is a pointer and the count of its elements. The pointer has the alignment of its type; with a count of
- * 0 it may be NULL. Lists that a call only writes (statement, record, totals, the book at opening) need no values
- * beforehand. The lists of one call must not overlap: a record can't be built in place around its own sheet.
+ * Lists. A list is a pointer and the count of its elements, which must be there; what they hold is free. The pointer
+ * has the alignment of its type; with a count of 0 it isn't used and may be NULL. Lists that a call only writes
+ * (statement, record, totals, the book at opening) need no values beforehand. The lists of one call must not overlap:
+ * a record can't be built in place around its own sheet.
  *
- * Answers. 0 is accepted; else the refusal's number + 256 * its place: the row from 0 for 6 and 7, else 0. A refused
- * call leaves every lent list as it was. Any bytes and any numbers may be handed in; nothing needs a check beforehand.
+ * Answers. 0 is accepted; else the refusal's number + 256 * its place: for 6 and 7 the row, counted from 0; for all
+ * others 0. Refusals are tested in the order that stands with the call, 6 and 7 row by row, and the first that holds
+ * is the answer. A refused call leaves every list, the book too, as it was.
  *
- * Threads. Nothing is kept between calls, and the archive has no data that it writes. Calls may run side by side as
+ * Threads. Nothing is kept between calls, and the library has no data that it writes. Calls may run side by side as
  * long as no list that one of them writes is used by another.
  *
- * Memory. No call uses the heap: memcpy and memset are all that the archive needs from outside (`nm -u`).
- * HEATCOST_STACK bytes of stack are enough for every call. Settling takes 18,000 of them; writing or reading a record,
- * posting and replacing 23,100; opening, withdrawing and the year call 200. `compare/run stack` measures this on a
- * painted stack.
+ * Memory. No call uses the heap: memcpy and memset are all that the library needs from outside (`nm -u`). A call takes
+ * at most HEATCOST_STACK bytes of stack: settling 18,000; writing or reading a record, posting and replacing 23,100;
+ * opening, withdrawing and the year call 200. `compare/run stack` measures this on a painted stack. The caller's own
+ * frames come on top, and what the system needs: a thread's own block, a first lookup of memcpy or memset.
  */
 #ifndef HEATCOST_H
 #define HEATCOST_H
@@ -25,18 +28,20 @@
 #include <stddef.h>
 #include <stdint.h>
 
-/* Raised whenever the parameters of a call change. */
+/* Raised whenever the parameters of a call change; a new call or a new refusal doesn't raise it. */
 #define HEATCOST_INTERFACE 1
 
+/* Bytes of stack that a call may take. */
 #define HEATCOST_STACK 24576
 
-/* The largest n, and the lengths for n units: bytes of a sheet, numbers of a statement, bytes of a record. */
+/* The largest n; for n units, unsigned, the bytes of a sheet, the numbers of a statement (uint32_t), the bytes of a
+ * record. */
 #define HEATCOST_MAX_UNITS 160
 #define HEATCOST_SHEET_LEN(n) (48u + 32u * (n))
 #define HEATCOST_STATEMENT_LEN(n) (8u * (n))
 #define HEATCOST_RECORD_LEN(n) (56u + 64u * (n))
 
-/* The numbers of a year book, and those that the year call writes. */
+/* The numbers of a year book (uint32_t), and those that the year call writes (uint64_t). */
 #define HEATCOST_BOOK_LEN 15557
 #define HEATCOST_TOTALS_LEN 9
 
@@ -70,26 +75,46 @@ enum heatcost_number {
 static inline const char *heatcost_text(uint32_t number)
 {
     switch (HEATCOST_NUMBER(number)) {
-    case HEATCOST_ACCEPTED: return "accepted";
-    case HEATCOST_TOO_SHORT: return "the sheet has fewer than 48 bytes";
-    case HEATCOST_BAD_MAGIC: return "the sheet's bytes 0 to 3 aren't HCS and a zero";
-    case HEATCOST_UNSUPPORTED_VERSION: return "the sheet's version, bytes 4 and 5, isn't 1";
-    case HEATCOST_HEADER_FIELD: return "a field of bytes 6 to 47 is out of range, or doesn't go with model or source";
-    case HEATCOST_WRONG_LENGTH: return "the sheet hasn't 48 + 32n bytes, or in a record 48 + 64n with its statement";
-    case HEATCOST_ROW_FIELD: return "a field of that row is out of range, or clashes";
-    case HEATCOST_ID_ORDER: return "the row's id isn't above the id of the row before";
-    case HEATCOST_HOT_WATER_EXCEEDS_METER: return "hot water H is more than the shared meter's M";
-    case HEATCOST_ZERO_DIVISOR: return "a sum to divide by is 0";
-    case HEATCOST_NO_READINGS: return "model 3 or 5, and not one unit is read";
-    case HEATCOST_METERS_EXCEED_HEAT: return "model 5, all read: the units' meters add to more than EG";
-    case HEATCOST_UNMETERED_EXCEEDS_HEAT: return "the weights of the units not read add to more than 10,000 times P";
-    case HEATCOST_BUFFER_LENGTH: return "the list lent for the answer has the wrong length";
-    case HEATCOST_BAD_ARCHIVE: return "fewer than 8 bytes, a wrong head, or a statement that isn't its sheet's";
-    case HEATCOST_BAD_YEAR_BOOK: return "the book hasn't 15,557 numbers, or n is above 160 or a mark above 1";
-    case HEATCOST_OTHER_BUILDING: return "the number of units or an id differs from the book's";
-    case HEATCOST_MONTH_STATE: return "the month stands already, doesn't stand, or isn't 1 to 12";
-    case HEATCOST_NO_SUCH_UNIT: return "the place isn't below n";
-    default: return "no such number";
+    case HEATCOST_ACCEPTED:
+        return "accepted";
+    case HEATCOST_TOO_SHORT:
+        return "the sheet has fewer than 48 bytes";
+    case HEATCOST_BAD_MAGIC:
+        return "the sheet's bytes 0 to 3 aren't HCS and a zero";
+    case HEATCOST_UNSUPPORTED_VERSION:
+        return "the sheet's version, bytes 4 and 5, isn't 1";
+    case HEATCOST_HEADER_FIELD:
+        return "a header field of the sheet is out of range, or doesn't go with model or water source";
+    case HEATCOST_WRONG_LENGTH:
+        return "the length doesn't fit n: a sheet has 48 + 32n bytes, a record 56 + 64n";
+    case HEATCOST_ROW_FIELD:
+        return "a field of that row is out of range, or doesn't go with model, source, status or class";
+    case HEATCOST_ID_ORDER:
+        return "the row's id isn't above the id of the row before";
+    case HEATCOST_HOT_WATER_EXCEEDS_METER:
+        return "the heat for hot water, H, is more than the shared meter's M";
+    case HEATCOST_ZERO_DIVISOR:
+        return "a sum to divide by is 0: of loads, riser surfaces, water units, litres or persons";
+    case HEATCOST_NO_READINGS:
+        return "model 3 or 5, and not one unit is read";
+    case HEATCOST_METERS_EXCEED_HEAT:
+        return "model 5, all read: the units' meters add to more than EG, which is M less H";
+    case HEATCOST_UNMETERED_EXCEEDS_HEAT:
+        return "the units not read outweigh the whole: their weights add to more than 10,000 times P";
+    case HEATCOST_BUFFER_LENGTH:
+        return "the list for statement, record or totals has the wrong length";
+    case HEATCOST_BAD_ARCHIVE:
+        return "the record has fewer than 8 bytes, a wrong head, or a statement that isn't its sheet's";
+    case HEATCOST_BAD_YEAR_BOOK:
+        return "not a year book: not 15,557 numbers, or n above 160, or a month's mark above 1";
+    case HEATCOST_OTHER_BUILDING:
+        return "the number of units or an id differs from the book's";
+    case HEATCOST_MONTH_STATE:
+        return "the month stands already (post), doesn't stand (replace, withdraw), or isn't 1 to 12";
+    case HEATCOST_NO_SUCH_UNIT:
+        return "the book has no unit at that place";
+    default:
+        return "no such number";
     }
 }
 
@@ -97,25 +122,28 @@ static inline const char *heatcost_text(uint32_t number)
 extern "C" {
 #endif
 
-/* Settles a sheet. Writes the statement, 8 numbers a unit: four Wh, four cents. Refusals 1 to 12, then 13 unless
- * statement_len is HEATCOST_STATEMENT_LEN(n). */
+/* Settles a sheet. Writes the statement, 8 numbers a unit: heat, common heat, water and common water in Wh, then the
+ * same in cents. Refusals 1 to 12, then 13 unless statement_len is HEATCOST_STATEMENT_LEN(n). */
 uint32_t heatcost_settle(const uint8_t *sheet, size_t sheet_len, uint32_t *statement, size_t statement_len);
 
 /* Writes the archive record of a sheet. Refusals 1 to 12, then 13 unless record_len is HEATCOST_RECORD_LEN(n). */
 uint32_t heatcost_write_record(const uint8_t *sheet, size_t sheet_len, uint8_t *record, size_t record_len);
 
-/* Checks a record: 14 for its head, the sheet's refusals, 14 for its statement. Accepted, the sheet is the record's
- * bytes from 8 on, heatcost_record_sheet_len of them. */
+/* Checks a record: 14 for its head, the sheet's refusals 1 to 12, 14 for its statement. Accepted, the sheet is the
+ * record's bytes from 8 on, heatcost_record_sheet_len of them. A change that leaves the settlement as it is isn't
+ * found: this is no checksum. */
 uint32_t heatcost_read_record(const uint8_t *record, size_t record_len);
 
-/* How many bytes the sheet of a record has, HEATCOST_SHEET_LEN(n); 0 for a record that is refused. */
+/* How many bytes the sheet of a record has, HEATCOST_SHEET_LEN(n); 0 for a record that is refused. It makes the whole
+ * check. */
 uint64_t heatcost_record_sheet_len(const uint8_t *record, size_t record_len);
 
 /* The year book is a list of HEATCOST_BOOK_LEN numbers that the caller keeps. Each call gets it as the last one left
- * it, and nobody else writes it meanwhile. 15 refuses another length; except at opening, also a book whose first
- * number is over 160 or that has a month mark over 1. */
+ * it, and nobody else writes it meanwhile. 15 refuses another length; except at opening, also a book whose number 0,
+ * its n, is over 160 or whose numbers 1 to 12, the months' marks, are not all 0 or 1. Nothing else in it is tested. */
 
-/* Opens a book, whatever it held, with the n and ids of a sheet. Refusals 15, 1 to 7. */
+/* Opens a book with the n and ids of a sheet and erases all that it held. No month stands afterwards, not the sheet's
+ * either. Refusals 15, 1 to 7. */
 uint32_t heatcost_open(uint32_t *book, size_t book_len, const uint8_t *sheet, size_t sheet_len);
 
 /* Posts a sheet's month, which must not stand yet; replaces one that stands. Refusals 15, 1 to 12, 16, 17. */

@@ -164,6 +164,10 @@ fn numbers_names_and_texts_are_those_of_the_format() {
         .map(|line| line.trim_end_matches(','))
         .collect();
     assert_eq!(found, members);
-    let found: Vec<&str> = lines().filter(|line| line.starts_with("case ")).collect();
+    let pairs = lines().zip(lines().skip(1));
+    let found: Vec<String> = pairs
+        .filter(|(line, _)| line.starts_with("case "))
+        .map(|(line, next)| format!("{line} {next}"))
+        .collect();
     assert_eq!(found, cases);
 }
