@@ -186,6 +186,9 @@ casesByHand =
     -- Model 3, units 12 and 13 in status 2: three equal weights, in row order 12, 13 and last the rest, which is unit 11's. One Wh, then two.
     ∷ heats (lastTheRest 1) gives numbers (0 ∷ 1 ∷ 0 ∷ [])
     ∷ heats (lastTheRest 2) gives numbers (0 ∷ 1 ∷ 1 ∷ [])
+    -- One Wh in two equal parts is the units': of heat by z 50, of water by y 50.
+    ∷ answer (sheet 3 0 30 50 0 30 0 1 10000 (first 0) (heated 11 0 1000 500 100 ∷ [])) gives settles 0 (1 ∷ 0 ∷ 0 ∷ 0 ∷ 0 ∷ 0 ∷ 0 ∷ 0 ∷ [])
+    ∷ answer (sheet 2 1 0 0 50 0 0 1 10000 (first 1) (unitBytes 11 0 1 1000 100 0 0 0 5 1 ∷ [])) gives settles 0 (0 ∷ 0 ∷ 1 ∷ 0 ∷ 0 ∷ 0 ∷ 0 ∷ 0 ∷ [])
     -- Model 3, M = 0: nothing by energies of sum 0.
     ∷ answer (sheet 3 0 30 20 0 30 0 0 10000 (first 0) (heated 11 0 1000 500 100 ∷ [])) gives settles 0 (0 ∷ 0 ∷ 0 ∷ 0 ∷ 0 ∷ 0 ∷ 0 ∷ 0 ∷ [])
     -- Model 4, v 50, z 10: r 80,000 each, KF 1,000 and 500. H by t 50 and ten litres is 810, by persons 2 and 1.
@@ -229,6 +232,10 @@ casesByHand =
     ∷ answer (waterSheet 20 (unitBytes 11 0 1 1000 100 0 0 0 5 0 ∷ [])) gives refuses 9 0
     ∷ answer (sheet 1 0 0 0 0 0 0 1000 10000 (first 0) (unitBytes 11 0 0 1000 100 0 0 0 0 0 ∷ [])) gives refuses 9 0
     ∷ answer (sheet 4 0 50 0 0 30 0 1000 10000 (first 0) (unitBytes 11 0 0 1000 100 0 0 30 0 0 ∷ [])) gives refuses 9 0
+    -- The last three where nothing is to be divided: of H 1 by y 20 no common water is left; M 0.
+    ∷ answer (sheet 2 1 0 0 20 0 0 1 10000 (first 1) (unitBytes 11 0 1 1000 100 0 0 0 5 0 ∷ [])) gives refuses 9 0
+    ∷ answer (sheet 1 0 0 0 0 0 0 0 10000 (first 0) (unitBytes 11 0 0 1000 100 0 0 0 0 0 ∷ [])) gives refuses 9 0
+    ∷ answer (sheet 4 0 50 0 0 30 0 0 10000 (first 0) (unitBytes 11 0 0 1000 100 0 0 30 0 0 ∷ [])) gives refuses 9 0
     -- L = 0 and N2 = 0 beside the other class. With y 0 and no persons, and with H 0 and n1 + n2 = 0, all heat is unit 11's.
     ∷ answer (waterSheet 0 (unitBytes 11 0 1 1000 100 0 0 0 0 1 ∷ unitBytes 12 0 2 1000 100 0 0 0 0 1 ∷ [])) gives refuses 9 0
     ∷ answer (waterSheet 0 (unitBytes 11 0 1 1000 100 0 0 0 5 1 ∷ unitBytes 12 0 2 1000 100 0 0 0 0 0 ∷ [])) gives refuses 9 0
