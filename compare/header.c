@@ -1,4 +1,6 @@
-/* What include/heatcost.h says beside the calls: lengths, the parts of an answer, texts, and NULL with a count of 0. */
+/* What include/heatcost.h says beside the calls: lengths, the parts of an answer, texts, NULL with a count of 0, lists
+ * without values, calls side by side in threads. */
+#include <pthread.h>
 #include <stdio.h>
 #include <stdlib.h>
 #include <string.h>
@@ -31,31 +33,43 @@ static void lengths(void)
 
 static void answers(void)
 {
-    EXPECT(HEATCOST_NUMBER(518), HEATCOST_ROW_FIELD);
-    EXPECT(HEATCOST_PLACE(518), 2);
+    EXPECT(HEATCOST_NUMBER(512 + 6), HEATCOST_ROW_FIELD);
+    EXPECT(HEATCOST_PLACE(512 + 6), 2);
+    EXPECT(HEATCOST_PLACE(256 * 1919 + 7), 1919);
     EXPECT(strcmp(heatcost_text(518), heatcost_text(HEATCOST_ROW_FIELD)), 0);
     EXPECT(strcmp(heatcost_text(19), "no such number"), 0);
     EXPECT(strcmp(heatcost_text(255), "no such number"), 0);
+}
+
+/* A sheet of model 2 with one unit. */
+static void make_sheet(uint8_t *sheet, uint8_t meter)
+{
+    static const uint8_t start[] = {'H', 'C', 'S', 0, 1, 0, 1, 2, 1}; /* to n */
+    memset(sheet, 0, HEATCOST_SHEET_LEN(1));
+    memcpy(sheet, start, sizeof start);
+    sheet[17] = meter; /* in 256 Wh */
+    sheet[22] = 1;     /* price, in 0.65536 EUR/kWh */
+    sheet[48 + 6] = 1; /* location factor */
+    sheet[48 + 8] = 1; /* heated area */
 }
 
 /* Every list as NULL with a count of 0; at opening the book has no values yet. */
 static void nulls(void)
 {
     uint32_t *book = (uint32_t *)malloc(HEATCOST_BOOK_LEN * sizeof *book);
-    uint8_t one_unit[HEATCOST_SHEET_LEN(1)] = {'H', 'C', 'S', 0, 1, 0, 1, 2, 1};
+    uint8_t sheet[HEATCOST_SHEET_LEN(1)];
     if (book == NULL)
         exit(2);
-    one_unit[48 + 6] = 1; /* location factor */
-    one_unit[48 + 8] = 1; /* heated area */
+    make_sheet(sheet, 0);
     EXPECT(heatcost_settle(NULL, 0, NULL, 0), HEATCOST_TOO_SHORT);
-    EXPECT(heatcost_settle(one_unit, sizeof one_unit, NULL, 0), HEATCOST_BUFFER_LENGTH);
+    EXPECT(heatcost_settle(sheet, sizeof sheet, NULL, 0), HEATCOST_BUFFER_LENGTH);
     EXPECT(heatcost_write_record(NULL, 0, NULL, 0), HEATCOST_TOO_SHORT);
-    EXPECT(heatcost_write_record(one_unit, sizeof one_unit, NULL, 0), HEATCOST_BUFFER_LENGTH);
+    EXPECT(heatcost_write_record(sheet, sizeof sheet, NULL, 0), HEATCOST_BUFFER_LENGTH);
     EXPECT(heatcost_read_record(NULL, 0), HEATCOST_BAD_ARCHIVE);
     EXPECT(heatcost_record_sheet_len(NULL, 0), 0);
     EXPECT(heatcost_open(NULL, 0, NULL, 0), HEATCOST_BAD_YEAR_BOOK);
     EXPECT(heatcost_open(book, HEATCOST_BOOK_LEN, NULL, 0), HEATCOST_TOO_SHORT);
-    EXPECT(heatcost_open(book, HEATCOST_BOOK_LEN, one_unit, sizeof one_unit), HEATCOST_ACCEPTED);
+    EXPECT(heatcost_open(book, HEATCOST_BOOK_LEN, sheet, sizeof sheet), HEATCOST_ACCEPTED);
     EXPECT(heatcost_post(NULL, 0, NULL, 0), HEATCOST_BAD_YEAR_BOOK);
     EXPECT(heatcost_post(book, HEATCOST_BOOK_LEN, NULL, 0), HEATCOST_TOO_SHORT);
     EXPECT(heatcost_replace(NULL, 0, NULL, 0), HEATCOST_BAD_YEAR_BOOK);
@@ -66,10 +80,44 @@ static void nulls(void)
     free(book);
 }
 
+/* A thread's own month, by its shared meter: the record is written and read again and again. Gives back NULL when it
+ * was right each time. */
+static void *write_and_read(void *meter)
+{
+    uint8_t sheet[HEATCOST_SHEET_LEN(1)];
+    uint8_t record[HEATCOST_RECORD_LEN(1)];
+    int i;
+    make_sheet(sheet, *(const uint8_t *)meter);
+    for (i = 0; i < 100000; i++) {
+        memset(record, 0, sizeof record);
+        if (heatcost_write_record(sheet, sizeof sheet, record, sizeof record) != HEATCOST_ACCEPTED
+            || heatcost_read_record(record, sizeof record) != HEATCOST_ACCEPTED
+            || memcmp(record + 8, sheet, sizeof sheet) != 0)
+            return meter;
+    }
+    return NULL;
+}
+
+static void threads(void)
+{
+    uint8_t meters[4] = {1, 10, 100, 200};
+    pthread_t started[4];
+    int i;
+    for (i = 0; i < 4; i++)
+        if (pthread_create(&started[i], NULL, write_and_read, &meters[i]) != 0)
+            exit(2);
+    for (i = 0; i < 4; i++) {
+        void *wrong = NULL;
+        pthread_join(started[i], &wrong);
+        EXPECT(wrong != NULL, 0);
+    }
+}
+
 int main(void)
 {
     lengths();
     answers();
     nulls();
+    threads();
     return failed;
 }

@@ -9,12 +9,6 @@
 
 #define MAX_SHEET HEATCOST_SHEET_LEN(HEATCOST_MAX_UNITS)
 
-/* A book is some 62 KB, so it is kept on the heap; opening needs no values in it. */
-static uint32_t *new_book(void)
-{
-    return (uint32_t *)malloc(HEATCOST_BOOK_LEN * sizeof(uint32_t));
-}
-
 static void say(const char *what, uint32_t answer)
 {
     printf("%s: ", what);
@@ -63,7 +57,8 @@ int main(int argc, char **argv)
 {
     static uint8_t sheet[MAX_SHEET + 1];
     FILE *file = argc == 2 ? fopen(argv[1], "rb") : NULL;
-    uint32_t *book = new_book();
+    /* Some 62 KB, so on the heap; opening needs no values in it. */
+    uint32_t *book = (uint32_t *)malloc(HEATCOST_BOOK_LEN * sizeof *book);
     if (file == NULL || book == NULL) {
         fprintf(stderr, "usage: year SHEET, a file that can be read\n");
         return 2;
