@@ -6,6 +6,7 @@ ghost use Rattle.sheet.specs.Inner.Places.{PlaceBelow};
 ghost use Rattle.settlement.specs.Settle.{settleAnswer, statementAfter};
 ghost use Rattle.archive.specs.Writer.{writeAnswer, recordAfter};
 ghost use Rattle.archive.specs.Reader.{readOutcome, countOf};
+ghost use Rattle.printing.specs.Printed.{printed, atFront};
 ghost use Rattle.yearbook.specs.LentBook.{openAnswer, bookOpened, postAnswer, bookPosted, replaceAnswer, bookReplaced, withdrawAnswer, bookWithdrawn};
 ghost use Rattle.heatcost.specs.Answer.{answerNumber};
 ghost use Rattle.heatcost.specs.Year.{yearListAnswer, yearListAfter};
@@ -55,6 +56,15 @@ pub extern "C" fn heatcost_record_sheet_len(bytes: &[u8]) -> u64
 {
     let part = archive::sheet_of(bytes);
     part.len() as u64
+}
+
+// The text that is printed of a sheet: how long it is. A list at least as long has it at its front, a shorter one keeps its contents.
+#[no_mangle]
+pub extern "C" fn heatcost_print(sheet: &[u8], text: &mut [u8]) -> u64
+    ensures { λ r. ⌜ r ≡ length (printed (now (sheet .entry))) ⌝ }
+    ensures { λ _. ⌜ now (text .exit) ≡ atFront (printed (now (sheet .entry))) (now (text .entry)) ⌝ }
+{
+    printing::print(sheet, text) as u64
 }
 
 // Opens a year book, a list of 15,557 numbers, with a sheet.

@@ -1,0 +1,45 @@
+-- What is answered of a text, and what becomes of the list. Assumes nothing.
+use mathlib.Core.Path.{_≡_, refl, sym, ap, _∙_}
+use mathlib.Core.List.{List, _++_}
+use Prim.Native.Nat.{ℕ, _*_, _≤_, _<_}
+use native.Mathlib.Omega.{arith}
+use borrow.Author.Tests.{le-leb, lt-leb}
+use lib.ListN.{length, drop, take-append-drop}
+use Rattle.sheet.specs.declared.refusal.Refusal.{Refusal}
+use Rattle.sheet.specs.declared.refusal.Outcome.the-variants.{Accepted, Refused}
+use Rattle.sheet.specs.Layout.{sheetOf}
+use Rattle.sheet.specs.Check.{checked}
+use Rattle.month.specs.Month.{refused, settled, monthOf}
+use Rattle.settlement.specs.Settle.{settleAnswer}
+use Rattle.settlement.proofs.Answers.{settled-in-order, answer-is, settles}
+use Rattle.printing.specs.Printed.{printed, textOf, atFront}
+use Rattle.printing.specs.Inner.Placed.{Placed, Prints}
+
+module _ (text list : List ℕ) (short : length text ≤ 15889) where
+  pub list-too-short : (len : ℕ) → len ≡ length text → length list < len → Prints text len list list
+  unfolding atFront
+  list-too-short len e h = record { long = e; short = omega arith; list = rw (lt-leb (length text) (length list) (omega arith)) }
+
+  pub put-at-front : {after : List ℕ} {end : ℕ} → length text ≤ length list → Placed text list 0 after end → Prints text end list after
+  unfolding atFront
+  put-at-front {after} {end} h p =
+      let e : end ≡ length text = omega (arith, p .ends) in
+      record {
+        long = e;
+        short = omega arith;
+        list = rw (le-leb (length text) (length list) h) (sym (take-append-drop end after) ∙ (λ i. p .front i ++ p .rest i) ∙ ap (λ (k : ℕ). text ++ drop k list) e);
+      }
+
+-- ---- which text: 1 to 7, then 8 to 12 by way of a list of 8n numbers
+pub refused-sheet : (bytes : List ℕ) (r : Refusal) → checked 32 bytes ≡ Refused r → printed bytes ≡ textOf (refused r)
+unfolding printed
+refused-sheet bytes r e = rw (settled-in-order bytes, e)
+
+module _ (bytes list : List ℕ) (passed : checked 32 bytes ≡ Accepted) (room : length list ≡ 8 * sheetOf bytes .unitCount) where
+  pub refused-month : (r : Refusal) → settleAnswer bytes list ≡ Refused r → printed bytes ≡ textOf (refused r)
+  unfolding printed
+  refused-month r e = rw (settled-in-order bytes, passed, sym (answer-is bytes list passed room) ∙ e)
+
+  pub settled-month : settleAnswer bytes list ≡ Accepted → printed bytes ≡ textOf (settled (monthOf (sheetOf bytes)))
+  unfolding printed
+  settled-month e = rw (settles bytes list passed room e)

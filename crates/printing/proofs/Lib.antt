@@ -1,0 +1,4 @@
+pub mod Placing
+pub mod Decimals
+pub mod Lines
+pub mod Answers

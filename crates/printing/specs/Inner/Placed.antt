@@ -1,0 +1,18 @@
+-- A text put into a list at a place, and a text printed.
+use mathlib.Core.Path.{_≡_}
+use mathlib.Core.List.{List, _++_}
+use Prim.Native.Nat.{ℕ, _+_, _≤_}
+use lib.ListN.{length, take, drop}
+use Rattle.printing.specs.Printed.{atFront}
+
+-- from `at` up to `end` stands the text; all else is as it was
+pub record Placed (text before : List ℕ) (at : ℕ) (after : List ℕ) (end : ℕ) : Type 0 where
+  pub ends : end ≡ at + length text
+  pub front : take end after ≡ take at before ++ text
+  pub rest : drop end after ≡ drop end before
+
+-- how long the text is, never over 15,889, and what becomes of the list
+pub record Prints (text : List ℕ) (len : ℕ) (before after : List ℕ) : Type 0 where
+  pub long : len ≡ length text
+  pub short : len ≤ 15889
+  pub list : after ≡ atFront text before

@@ -1,0 +1,5 @@
+-- What is printed of a sheet, byte by byte (document 01, "Printing").
+pub mod Text
+pub mod Printed
+pub mod Inner
+pub mod Cases
