@@ -1,4 +1,8 @@
-// Numbers and answers on standard output, numbers from standard input: what the programs share.
+// Texts, numbers and answers on standard output, sheets and numbers from standard input: what the programs share.
+mod program;
+
+pub use program::print;
+pub use program::run;
 ghost use Prim.Native.Nat.{_<_};
 use libc::STDIN_FILENO;
 use libc::STDOUT_FILENO;

@@ -4,7 +4,8 @@ use mathlib.Core.List.{List, _++_}
 use Prim.Native.Nat.{ℕ, _*_, _≤_, _<_}
 use native.Mathlib.Omega.{arith}
 use borrow.Author.Tests.{le-leb, lt-leb}
-use lib.ListN.{length, drop, take-append-drop}
+use lib.ListN.{length, take, drop, take-append-drop}
+use lib.Seq.{take-append-seam}
 use Rattle.sheet.specs.declared.refusal.Refusal.{Refusal}
 use Rattle.sheet.specs.declared.refusal.Outcome.the-variants.{Accepted, Refused}
 use Rattle.sheet.specs.Layout.{sheetOf}
@@ -43,3 +44,8 @@ module _ (bytes list : List ℕ) (passed : checked 32 bytes ≡ Accepted) (room 
   pub settled-month : settleAnswer bytes list ≡ Accepted → printed bytes ≡ textOf (settled (monthOf (sheetOf bytes)))
   unfolding printed
   settled-month e = rw (settles bytes list passed room e)
+
+-- ---- what stands at the front of a list with room
+pub front-is : (text list : List ℕ) → length text ≤ length list → take (length text) (atFront text list) ≡ text
+unfolding atFront
+front-is text list h = rw (le-leb (length text) (length list) h) (take-append-seam text (drop (length text) list))

@@ -1,4 +1,4 @@
 // The program `statement` on empty input.
 fn main() {
-    printing::run();
+    console::run();
 }
