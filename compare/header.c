@@ -29,6 +29,8 @@ static void lengths(void)
     EXPECT(HEATCOST_STATEMENT_LEN(1 + 2), 24);
     EXPECT(HEATCOST_RECORD_LEN(1 + 2), 248);
     EXPECT(HEATCOST_RECORD_LEN(HEATCOST_MAX_UNITS), 10296);
+    EXPECT(HEATCOST_TEXT_LEN(1 + 2), 346);
+    EXPECT(HEATCOST_TEXT_LEN(HEATCOST_MAX_UNITS), 15889);
 }
 
 static void answers(void)
@@ -63,6 +65,8 @@ static void nulls(void)
     make_sheet(sheet, 0);
     EXPECT(heatcost_settle(NULL, 0, NULL, 0), HEATCOST_TOO_SHORT);
     EXPECT(heatcost_settle(sheet, sizeof sheet, NULL, 0), HEATCOST_BUFFER_LENGTH);
+    EXPECT(heatcost_print(NULL, 0, NULL, 0), strlen("refused 1 0\n"));
+    EXPECT(heatcost_print(sheet, sizeof sheet, NULL, 0), strlen("month 1 units 1 wh 0 cents 0\n0 0 0 0 0 0 0 0 0\n"));
     EXPECT(heatcost_write_record(NULL, 0, NULL, 0), HEATCOST_TOO_SHORT);
     EXPECT(heatcost_write_record(sheet, sizeof sheet, NULL, 0), HEATCOST_BUFFER_LENGTH);
     EXPECT(heatcost_read_record(NULL, 0), HEATCOST_BAD_ARCHIVE);
@@ -80,17 +84,27 @@ static void nulls(void)
     free(book);
 }
 
-/* A thread's own month, by its shared meter: the record is written and read again and again. Gives back NULL when it
- * was right each time. */
-static void *write_and_read(void *meter)
+/* A thread's own month, by its shared meter: it is printed, and its record written and read, again and again. Gives
+ * back NULL when all was right each time. */
+static void *print_write_and_read(void *meter)
 {
     uint8_t sheet[HEATCOST_SHEET_LEN(1)];
+    uint8_t text[HEATCOST_TEXT_LEN(1)];
     uint8_t record[HEATCOST_RECORD_LEN(1)];
+    unsigned long wh = 256ul * *(const uint8_t *)meter;
+    unsigned long cents = (wh * 65536 + 500000) / 1000000;
+    char wanted[sizeof text + 1];
+    size_t text_len;
     int i;
     make_sheet(sheet, *(const uint8_t *)meter);
+    text_len = (size_t)snprintf(wanted, sizeof wanted, "month 1 units 1 wh %lu cents %lu\n0 %lu 0 0 0 %lu 0 0 0\n", wh,
+                                cents, wh, cents);
     for (i = 0; i < 100000; i++) {
+        memset(text, 0, sizeof text);
         memset(record, 0, sizeof record);
-        if (heatcost_write_record(sheet, sizeof sheet, record, sizeof record) != HEATCOST_ACCEPTED
+        if (heatcost_print(sheet, sizeof sheet, text, sizeof text) != text_len
+            || memcmp(text, wanted, text_len) != 0
+            || heatcost_write_record(sheet, sizeof sheet, record, sizeof record) != HEATCOST_ACCEPTED
             || heatcost_read_record(record, sizeof record) != HEATCOST_ACCEPTED
             || memcmp(record + 8, sheet, sizeof sheet) != 0)
             return meter;
@@ -104,7 +118,7 @@ static void threads(void)
     pthread_t started[4];
     int i;
     for (i = 0; i < 4; i++)
-        if (pthread_create(&started[i], NULL, write_and_read, &meters[i]) != 0)
+        if (pthread_create(&started[i], NULL, print_write_and_read, &meters[i]) != 0)
             exit(2);
     for (i = 0; i < 4; i++) {
         void *wrong = NULL;

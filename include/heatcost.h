@@ -7,20 +7,20 @@
  *
  * Lists. A list is a pointer and the count of its elements, which must be there; what they hold is free. The pointer
  * has the alignment of its type; with a count of 0 it isn't used and may be NULL. Lists that a call only writes
- * (statement, record, totals, the book at opening) need no values beforehand. The lists of one call must not overlap:
- * a record can't be built in place around its own sheet.
+ * (statement, record, text, totals, the book at opening) need no values beforehand. The lists of one call must not
+ * overlap: a record can't be built in place around its own sheet.
  *
- * Answers. 0 is accepted; else the refusal's number + 256 * its place: for 6 and 7 the row, counted from 0; for all
- * others 0. Refusals are tested in the order that stands with the call, 6 and 7 row by row, and the first that holds
- * is the answer. A refused call leaves every list, the book too, as it was.
+ * Answers. A uint64_t is a length. A uint32_t is 0 for accepted, else the refusal's number + 256 * its place: for 6
+ * and 7 the row, counted from 0; for all others 0. Refusals are tested in the order that stands with the call, 6 and 7
+ * row by row, and the first that holds is the answer. A refused call leaves every list, the book too, as it was.
  *
  * Threads. Nothing is kept between calls, and the library has no data that it writes. Calls may run side by side as
  * long as no list that one of them writes is used by another.
  *
  * Memory. No call uses the heap: memcpy and memset are all that the library needs from outside (`nm -u`). A call takes
- * at most HEATCOST_STACK bytes of stack: settling 18,000; writing or reading a record, posting and replacing 23,100;
- * opening, withdrawing and the year call 200. `compare/run stack` measures this on a painted stack. The caller's own
- * frames come on top, and what the system needs: a thread's own block, a first lookup of memcpy or memset.
+ * at most HEATCOST_STACK bytes of stack: settling 18,000; printing, writing or reading a record, posting and replacing
+ * 23,100; opening, withdrawing and the year call 200. `compare/run stack` measures this on a painted stack. The
+ * caller's own frames come on top, and what the system needs: a thread's own block, a first lookup of memcpy or memset.
  */
 #ifndef HEATCOST_H
 #define HEATCOST_H
@@ -35,11 +35,12 @@
 #define HEATCOST_STACK 24576
 
 /* The largest n; for n units, unsigned, the bytes of a sheet, the numbers of a statement (uint32_t), the bytes of a
- * record. */
+ * record, and the most bytes that a printed text has. */
 #define HEATCOST_MAX_UNITS 160
 #define HEATCOST_SHEET_LEN(n) (48u + 32u * (n))
 #define HEATCOST_STATEMENT_LEN(n) (8u * (n))
 #define HEATCOST_RECORD_LEN(n) (56u + 64u * (n))
+#define HEATCOST_TEXT_LEN(n) (49u + 99u * (n))
 
 /* The numbers of a year book (uint32_t), and those that the year call writes (uint64_t). */
 #define HEATCOST_BOOK_LEN 15557
@@ -125,6 +126,12 @@ extern "C" {
 /* Settles a sheet. Writes the statement, 8 numbers a unit: heat, common heat, water and common water in Wh, then the
  * same in cents. Refusals 1 to 12, then 13 unless statement_len is HEATCOST_STATEMENT_LEN(n). */
 uint32_t heatcost_settle(const uint8_t *sheet, size_t sheet_len, uint32_t *statement, size_t statement_len);
+
+/* Prints a sheet: its month, or the line of its refusal, 1 to 12 (docs/FORMAT.md, "The printed form"). Answers how many
+ * bytes that text has, no zero byte among them: at most HEATCOST_TEXT_LEN(n), refused at most HEATCOST_TEXT_LEN(0).
+ * Writes it to the front of a list that is long enough and leaves what stands behind it; a shorter list stays as it
+ * was. So NULL and 0 ask for the length alone. */
+uint64_t heatcost_print(const uint8_t *sheet, size_t sheet_len, uint8_t *text, size_t text_len);
 
 /* Writes the archive record of a sheet. Refusals 1 to 12, then 13 unless record_len is HEATCOST_RECORD_LEN(n). */
 uint32_t heatcost_write_record(const uint8_t *sheet, size_t sheet_len, uint8_t *record, size_t record_len);

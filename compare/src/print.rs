@@ -10,6 +10,16 @@ pub fn print_statement(bytes: &[u8]) -> String {
     }
 }
 
+/// Writes that text to the front of a list that is long enough; a shorter one
+/// keeps its contents. Gives back the text's length.
+pub fn print_into(bytes: &[u8], list: &mut [u8]) -> usize {
+    let text = print_statement(bytes);
+    if let Some(front) = list.get_mut(..text.len()) {
+        front.copy_from_slice(text.as_bytes());
+    }
+    text.len()
+}
+
 fn print_outcome(outcome: &Outcome) -> String {
     let mut text = format!(
         "month {} units {} wh {} cents {}\n",

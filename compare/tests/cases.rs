@@ -2,7 +2,7 @@
 
 use compare::apportion::apportion;
 use compare::cases::*;
-use compare::print::print_statement;
+use compare::print::{print_into, print_statement};
 use compare::settle::{hot_water_wh, settle_bytes, Outcome};
 use compare::sheet::{build_sheet, Sheet};
 
@@ -25,6 +25,19 @@ fn case_a_prints_whole() {
         12 228000 50000 0 0 2280 500 0 0\n\
         13 456000 100000 0 0 4560 1000 0 0\n";
     assert_eq!(print_statement(&build_sheet(&case_a())), expected);
+}
+
+#[test]
+fn a_list_has_the_text_at_its_front_or_stays() {
+    let sheet = build_sheet(&case_a());
+    let text = print_statement(&sheet);
+    assert_eq!(print_into(&sheet, &mut []), text.len());
+    let mut longer = vec![5; text.len() + 1];
+    assert_eq!(print_into(&sheet, &mut longer), text.len());
+    assert_eq!(longer, [text.as_bytes(), &[5]].concat());
+    let mut shorter = vec![5; text.len() - 1];
+    assert_eq!(print_into(&sheet, &mut shorter), text.len());
+    assert_eq!(shorter, vec![5; text.len() - 1]);
 }
 
 #[test]

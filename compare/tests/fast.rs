@@ -6,7 +6,7 @@ use compare::edges::{border_sheet, sheet_at_an_end};
 use compare::rng::Rng;
 use compare::samples::random_sheet;
 use compare::sheet::{build_sheet, get_u16};
-use compare::{apportion, fast, record, settle};
+use compare::{apportion, fast, print, record, settle};
 
 fn random_bytes(rng: &mut Rng) -> Vec<u8> {
     match rng.below(6) {
@@ -36,6 +36,19 @@ fn statements() {
         assert_eq!(answer, expected);
         let answer = fast::settle::<false>(&sheet, &mut list).map(|()| list.clone());
         assert_eq!(answer, expected);
+    }
+}
+
+#[test]
+fn texts() {
+    let mut rng = Rng::new(35);
+    for _ in 0..10_000 {
+        let sheet = random_bytes(&mut rng);
+        let len = print::print_into(&sheet, &mut []) + 1 - rng.below(3) as usize;
+        let (mut plain, mut other) = (vec![5; len], vec![5; len]);
+        let expected = print::print_into(&sheet, &mut plain);
+        assert_eq!(fast::print::print(&sheet, &mut other), expected);
+        assert_eq!(other, plain);
     }
 }
 

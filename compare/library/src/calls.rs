@@ -4,6 +4,7 @@
 #[rustfmt::skip]
 extern "C" {
     fn heatcost_settle(sheet: *const u8, sheet_len: usize, statement: *mut u32, statement_len: usize) -> u32;
+    fn heatcost_print(sheet: *const u8, sheet_len: usize, text: *mut u8, text_len: usize) -> u64;
     fn heatcost_write_record(sheet: *const u8, sheet_len: usize, record: *mut u8, record_len: usize) -> u32;
     fn heatcost_read_record(record: *const u8, record_len: usize) -> u32;
     fn heatcost_record_sheet_len(record: *const u8, record_len: usize) -> u64;
@@ -24,6 +25,10 @@ extern "C" {
 
 pub fn settle(sheet: &[u8], list: &mut [u32]) -> u32 {
     unsafe { heatcost_settle(sheet.as_ptr(), sheet.len(), list.as_mut_ptr(), list.len()) }
+}
+
+pub fn print(sheet: &[u8], list: &mut [u8]) -> u64 {
+    unsafe { heatcost_print(sheet.as_ptr(), sheet.len(), list.as_mut_ptr(), list.len()) }
 }
 
 pub fn write_record(sheet: &[u8], list: &mut [u8]) -> u32 {

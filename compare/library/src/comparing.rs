@@ -1,4 +1,4 @@
-//! One round: settle, write and read, and sometimes a book.
+//! One round: settle, write and read, sometimes a book, and print.
 
 use crate::books::compare_book;
 use crate::calls;
@@ -23,7 +23,7 @@ pub fn compare_round(side: &Side, seed: u64, round: u64, tally: &mut Tally) -> C
     if round.is_multiple_of(ROUNDS_A_BOOK) {
         compare_book(side, &mut rng, tally)?;
     }
-    Ok(())
+    compare_print(side, &mut rng, &sheet)
 }
 
 fn compare_settle(side: &Side, rng: &mut Rng, sheet: &[u8], tally: &mut Tally) -> Compared<()> {
@@ -57,4 +57,20 @@ fn compare_read(side: &Side, bytes: &[u8], tally: &mut Tally) -> Compared<()> {
     let len = calls::record_sheet_len(bytes);
     tally.count("read", number);
     same("read: sheet length", bytes, expected_len, len)
+}
+
+/// Asks with an empty list for the text's length, then prints.
+fn compare_print(side: &Side, rng: &mut Rng, sheet: &[u8]) -> Compared<()> {
+    let expected = (side.print)(sheet, &mut []);
+    let text_len = calls::print(sheet, &mut []);
+    same("print: length", sheet, expected, text_len)?;
+    let longest = 49 + 99 * unit_count(sheet) as u64;
+    same("print: longest", sheet, text_len.max(longest), longest)?;
+    let len = list_len(rng, text_len as usize);
+    let mut ours = vec![5; len];
+    let mut theirs = vec![5; len];
+    let expected = (side.print)(sheet, &mut ours);
+    let text_len = calls::print(sheet, &mut theirs);
+    same("print", sheet, expected, text_len)?;
+    same("print: text", sheet, ours, theirs)
 }

@@ -5,6 +5,7 @@ use compare::refusal::Refusal;
 /// Its calls, each as the library's (calls.rs).
 pub struct Side {
     pub settle: fn(&[u8], &mut [u32]) -> u32,
+    pub print: fn(&[u8], &mut [u8]) -> u64,
     pub write_record: fn(&[u8], &mut [u8]) -> u32,
     /// The answer and the length of the sheet's part.
     pub read_record: fn(&[u8]) -> (u32, u64),
@@ -31,7 +32,7 @@ pub fn answer<T>(result: &Result<T, Refusal>) -> u32 {
 /// The side that a crate with the plain form's modules makes.
 macro_rules! side {
     ($form:ident) => {{
-        use $form::{book, record, refusal::Refusal, settle};
+        use $form::{book, print, record, refusal::Refusal, settle};
 
         fn answer(result: Result<(), Refusal>) -> u32 {
             result.map_or_else(|refusal| number(refusal.number, refusal.place), |()| 0)
@@ -45,6 +46,7 @@ macro_rules! side {
 
         Side {
             settle: |sheet, list| answer(settle_into(sheet, list)),
+            print: |sheet, list| print::print_into(sheet, list) as u64,
             write_record: |sheet, list| answer(record::write_record(sheet, list)),
             read_record: |bytes| {
                 let read = record::read_record(bytes);

@@ -54,6 +54,7 @@ pub fn measure() -> bool {
     }
     let records: Vec<Vec<u8>> = sheets.iter().map(|sheet| record_of(sheet)).collect();
     let mut list = vec![0; 1280];
+    let mut text = vec![0; 49 + 99 * 160];
     let mut bytes = vec![0; 56 + 64 * 160];
     let mut book = vec![0; BOOK_LEN];
     let needs = [
@@ -62,6 +63,10 @@ pub fn measure() -> bool {
             most(&sheets, |s| {
                 drop_answer(calls::settle(s, &mut list[..(s.len() - 48) / 4]))
             }),
+        ),
+        (
+            "print",
+            most(&sheets, |s| drop_answer(calls::print(s, &mut text) as u32)),
         ),
         (
             "write_record",

@@ -6,6 +6,7 @@ pub mod book;
 pub mod dividing;
 pub mod header;
 pub mod month;
+pub mod print;
 pub mod record;
 pub mod rows;
 

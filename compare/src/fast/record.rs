@@ -4,7 +4,7 @@ use super::month::Month;
 use crate::record::HEAD;
 use crate::refusal::*;
 
-fn statement_of<'a>(month: &Month, numbers: &'a mut [u32; 1280]) -> &'a [u32] {
+pub fn statement_of<'a>(month: &Month, numbers: &'a mut [u32; 1280]) -> &'a [u32] {
     let numbers = &mut numbers[..8 * month.rows.len()];
     month.write_statement::<true>(numbers);
     numbers

@@ -153,6 +153,35 @@ readings! {
     StatementByKind "all Wh first, then all cents",
     StatementInPairs "Wh and cents in turn",
 
+    // "Printing"
+    PrintedBillForMeter "first line: the bill for M",
+    PrintedMeterInKwh "first line: M in kWh",
+    PrintedMonthInTwoDigits "first line: month in two digits",
+    PrintedNextId "the next row's id printed",
+    PrintedPlaceForId "the row's place printed for its id",
+    PrintedCentsFirst "cents printed before Wh",
+    PrintedZeroLeftOut "0 printed without a digit",
+    PrintedSigned "numbers of 32 bits printed with a sign",
+    PrintedInTenDigits "numbers printed in ten digits",
+    PrintedWithoutPlace "refused without its place",
+    PrintedPlaceFromOne "refused with the row counted from 1",
+    PrintedAnswer "refused with number + 256 x place",
+    PrintedNoRefusal "nothing printed when refused",
+    PrintedNothingOfNothing "nothing printed of no bytes",
+    PrintedNoLastNewline "text without its last newline",
+    PrintedReturns "text with a return before each newline",
+
+    // The list for the text
+    TextCut "text cut to a shorter list",
+    TextTooShortRefused "text: a shorter list is 13",
+    TextExactly "text: a longer list isn't written",
+    TextOneMore "text: the list must be longer by one",
+    TextLengthWritten "text: the length is what was written",
+    TextLengthWithZero "text: the length has a zero byte in it",
+    TextZeroByte "text: a zero byte behind it",
+    TextZeroesRest "text: zeros to the list's end",
+    TextZeroesShort "text: a shorter list zeroed",
+
     // "Archive record"
     HeadZeros "head's bytes 6 and 7 not tested",
     HeadVersion "head's version not tested",

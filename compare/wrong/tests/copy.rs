@@ -23,7 +23,7 @@ fn random_bytes(rng: &mut Rng) -> Vec<u8> {
 }
 
 #[test]
-fn sheets_and_records() {
+fn sheets_texts_and_records() {
     let mut rng = Rng::new(1);
     for _ in 0..4_000 {
         let sheet = random_bytes(&mut rng);
@@ -39,6 +39,14 @@ fn sheets_and_records() {
             compare::record::write_record(&sheet, &mut plain),
         );
         assert_eq!(copy, plain);
+        let text_len = compare::print::print_statement(&sheet).len();
+        let mut text = vec![5; text_len + 1 - rng.below(3) as usize];
+        let mut plain_text = text.clone();
+        same(
+            wrong::print::print_into(&sheet, &mut text),
+            compare::print::print_into(&sheet, &mut plain_text),
+        );
+        assert_eq!(text, plain_text);
         let place = rng.below(plain.len() as u64) as usize;
         plain[place] ^= rng.below(2) as u8;
         same(

@@ -1,4 +1,4 @@
-//! The check, the archive record and the year book.
+//! The check, printing, the archive record and the year book.
 
 use super::cases::settled_sheets;
 use super::{print_pair, print_pair_head};
@@ -15,6 +15,7 @@ pub fn run(seed: u64) {
     for count in [160, 8] {
         let sheets = settled_sheets(seed, 1, count, &MODELS);
         check(count, &sheets[0]);
+        print(count, &sheets[0]);
         write(count, &sheets[0]);
         read(count, &sheets[0]);
         post(count, &sheets[0]);
@@ -40,6 +41,23 @@ fn check(count: usize, sheet: &[u8]) {
             },
             &mut || {
                 black_box(fast::book::open(&mut b, black_box(&sheet))).ok();
+            },
+        ],
+    );
+}
+
+fn print(count: usize, sheet: &[u8]) {
+    let len = 49 + 99 * count;
+    let [mut a, mut b] = [vec![0; len], vec![0; len]];
+    print_pair(
+        &format!("n {count}, print"),
+        1,
+        [
+            &mut || {
+                black_box(calls::print(black_box(sheet), &mut a));
+            },
+            &mut || {
+                black_box(fast::print::print(black_box(sheet), &mut b));
             },
         ],
     );

@@ -5,6 +5,7 @@ pub mod bill;
 pub mod book;
 pub mod dividing;
 pub mod heat;
+pub mod print;
 pub mod ranges;
 pub mod record;
 pub mod refusals;
