@@ -1,12 +1,14 @@
 // The calls for other languages. An answer is 0 when accepted, else number + 256 × place.
 ghost use mathlib.Core.Path.{_≡_};
 ghost use mathlib.Core.List.{_∷_};
+ghost use Prim.Native.Nat.{_≤_};
 ghost use lib.ListN.{length};
 ghost use Rattle.sheet.specs.Inner.Places.{PlaceBelow};
+ghost use Rattle.month.specs.Month.{settledSheet};
 ghost use Rattle.settlement.specs.Settle.{settleAnswer, statementAfter};
 ghost use Rattle.archive.specs.Writer.{writeAnswer, recordAfter};
 ghost use Rattle.archive.specs.Reader.{readOutcome, countOf};
-ghost use Rattle.printing.specs.Printed.{printed, atFront};
+ghost use Rattle.printing.specs.Printed.{printed, longest, atFront};
 ghost use Rattle.yearbook.specs.LentBook.{openAnswer, bookOpened, postAnswer, bookPosted, replaceAnswer, bookReplaced, withdrawAnswer, bookWithdrawn};
 ghost use Rattle.heatcost.specs.Answer.{answerNumber};
 ghost use Rattle.heatcost.specs.Year.{yearListAnswer, yearListAfter};
@@ -61,7 +63,7 @@ pub extern "C" fn heatcost_record_sheet_len(bytes: &[u8]) -> u64
 // The text that is printed of a sheet: how long it is. A list at least as long has it at its front, a shorter one keeps its contents.
 #[no_mangle]
 pub extern "C" fn heatcost_print(sheet: &[u8], text: &mut [u8]) -> u64
-    ensures { λ r. ⌜ r ≡ length (printed (now (sheet .entry))) ⌝ }
+    ensures { λ r. ⌜ (r ≡ length (printed (now (sheet .entry)))) × (r ≤ longest (settledSheet (now (sheet .entry)))) ⌝ }
     ensures { λ _. ⌜ now (text .exit) ≡ atFront (printed (now (sheet .entry))) (now (text .entry)) ⌝ }
 {
     printing::print(sheet, text) as u64

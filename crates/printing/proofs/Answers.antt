@@ -10,18 +10,23 @@ use Rattle.sheet.specs.declared.refusal.Refusal.{Refusal}
 use Rattle.sheet.specs.declared.refusal.Outcome.the-variants.{Accepted, Refused}
 use Rattle.sheet.specs.Layout.{sheetOf}
 use Rattle.sheet.specs.Check.{checked}
-use Rattle.month.specs.Month.{refused, settled, monthOf}
+use Rattle.month.specs.Month.{Month, Settled, refused, settled, monthOf, settledSheet}
+use Rattle.month.proofs.Accepted.{accepted}
+use Rattle.month.proofs.Laws.{settled-month}
 use Rattle.settlement.specs.Settle.{settleAnswer}
-use Rattle.settlement.proofs.Answers.{settled-in-order, answer-is, settles}
-use Rattle.printing.specs.Printed.{printed, textOf, atFront}
+use Rattle.settlement.proofs.Answers.{settled-in-order, answer-is}
+use Rattle.printing.specs.Printed.{textOf, longest, atFront}
 use Rattle.printing.specs.Inner.Placed.{Placed, Prints}
 
-module _ (text list : List ℕ) (short : length text ≤ 15889) where
-  pub list-too-short : (len : ℕ) → len ≡ length text → length list < len → Prints text len list list
+module _ (x : Settled) (list : List ℕ) (short : length (textOf x) ≤ longest x) where
+  abbrev text : List ℕ
+  text = textOf x
+
+  pub list-too-short : (len : ℕ) → len ≡ length text → length list < len → Prints x len list list
   unfolding atFront
   list-too-short len e h = record { long = e; short = omega arith; list = rw (lt-leb (length text) (length list) (omega arith)) }
 
-  pub put-at-front : {after : List ℕ} {end : ℕ} → length text ≤ length list → Placed text list 0 after end → Prints text end list after
+  pub put-at-front : {after : List ℕ} {end : ℕ} → length text ≤ length list → Placed text list 0 after end → Prints x end list after
   unfolding atFront
   put-at-front {after} {end} h p =
       let e : end ≡ length text = omega (arith, p .ends) in
@@ -32,20 +37,24 @@ module _ (text list : List ℕ) (short : length text ≤ 15889) where
       }
 
 -- ---- which text: 1 to 7, then 8 to 12 by way of a list of 8n numbers
-pub refused-sheet : (bytes : List ℕ) (r : Refusal) → checked 32 bytes ≡ Refused r → printed bytes ≡ textOf (refused r)
-unfolding printed
+pub refused-sheet : (bytes : List ℕ) (r : Refusal) → checked 32 bytes ≡ Refused r → settledSheet bytes ≡ refused r
 refused-sheet bytes r e = rw (settled-in-order bytes, e)
 
 module _ (bytes list : List ℕ) (passed : checked 32 bytes ≡ Accepted) (room : length list ≡ 8 * sheetOf bytes .unitCount) where
-  pub refused-month : (r : Refusal) → settleAnswer bytes list ≡ Refused r → printed bytes ≡ textOf (refused r)
-  unfolding printed
+  pub refused-month : (r : Refusal) → settleAnswer bytes list ≡ Refused r → settledSheet bytes ≡ refused r
   refused-month r e = rw (settled-in-order bytes, passed, sym (answer-is bytes list passed room) ∙ e)
 
-  pub settled-month : settleAnswer bytes list ≡ Accepted → printed bytes ≡ textOf (settled (monthOf (sheetOf bytes)))
-  unfolding printed
-  settled-month e = rw (settles bytes list passed room e)
+-- ---- a list of 15,889 bytes has room for every text
+pub room-for-all : (bytes : List ℕ) → longest (settledSheet bytes) ≤ 15889
+unfolding monthOf
+room-for-all bytes = go (settledSheet bytes) refl
+  where
+    go : (x : Settled) → settledSheet bytes ≡ x → longest x ≤ 15889
+    go (refused r) e = omega arith
+    go (settled m) e =
+        let is = settled-month bytes m e in
+        omega (arith, ap (λ (m : Month). m .unitCount) (is .1), accepted bytes (is .0) .checked-sheet .header .unitCount)
 
--- ---- what stands at the front of a list with room
 pub front-is : (text list : List ℕ) → length text ≤ length list → take (length text) (atFront text list) ≡ text
 unfolding atFront
 front-is text list h = rw (le-leb (length text) (length list) h) (take-append-seam text (drop (length text) list))

@@ -1,6 +1,6 @@
 -- What `statement` prints of any bytes (document 01, "Printing"), and the same text in a lent list.
 use mathlib.Core.List.{List, [], _∷_, _++_, map}
-use Prim.Native.Nat.{ℕ}
+use Prim.Native.Nat.{ℕ, _+_, _*_}
 use lib.Dec.{leb}
 use lib.ListN.{length, take, drop}
 use Rattle.sheet.specs.Tests.{if_then_else_}
@@ -39,6 +39,11 @@ textOf (settled m) = firstLine m ++ unitLines (m .ids) (m .numbers)
 -- the text of any bytes
 unfoldable pub printed : List ℕ → List ℕ
 printed bytes = textOf (settledSheet bytes)
+
+-- No text is longer: a refusal's line and a first line have at most 49 bytes, a unit's line at most 99.
+abbrev pub longest : Settled → ℕ
+longest (refused r) = 49
+longest (settled m) = 49 + 99 * m .unitCount
 
 -- A text at the front of a list that is at least as long; a shorter list keeps its contents.
 unfoldable pub atFront : (text list : List ℕ) → List ℕ

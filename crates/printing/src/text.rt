@@ -6,8 +6,8 @@ ghost use Rattle.sheet.specs.declared.refusal.Outcome.the-variants.{Accepted};
 ghost use Rattle.sheet.specs.Layout.{sheetOf};
 ghost use Rattle.sheet.specs.Check.{checked};
 ghost use Rattle.sheet.specs.Inner.Fits.{Fits};
-ghost use Rattle.month.specs.Month.{refused, settled, statementOf, monthOf};
-ghost use Rattle.printing.specs.Printed.{printed, textOf, atFront};
+ghost use Rattle.month.specs.Month.{refused, settled, statementOf, monthOf, settledSheet};
+ghost use Rattle.printing.specs.Printed.{printed, longest, atFront};
 ghost use Rattle.printing.specs.Inner.Placed.{Prints};
 use crate::lengths;
 use crate::render;
@@ -19,7 +19,7 @@ use sheet::header;
 pub const LONGEST: usize = 15889;
 
 fn print_refusal(r: Refusal, text: &mut [u8]) -> usize
-    ensures { λ n. ⌜ Prints (textOf (refused r)) n (now (text .entry)) (now (text .exit)) ⌝ }
+    ensures { λ n. ⌜ Prints (refused r) n (now (text .entry)) (now (text .exit)) ⌝ }
 {
     let len = lengths::refusal_line_len(r);
     if text.len() < len {
@@ -31,7 +31,7 @@ fn print_refusal(r: Refusal, text: &mut [u8]) -> usize
 // The text of a settled month.
 fn print_month(sheet: &[u8], statement: &[u32], text: &mut [u8]) -> usize
     requires { ⌜ Fits 32 (now sheet) × (now statement ≡ statementOf (sheetOf (now sheet))) × (length (now statement) ≡ 8 * sheetOf (now sheet) .unitCount) ⌝ }
-    ensures { λ n. ⌜ Prints (textOf (settled (monthOf (sheetOf (now (sheet .entry)))))) n (now (text .entry)) (now (text .exit)) ⌝ }
+    ensures { λ n. ⌜ Prints (settled (monthOf (sheetOf (now (sheet .entry))))) n (now (text .entry)) (now (text .exit)) ⌝ }
 {
     let len = lengths::first_line_len(sheet) + lengths::unit_lines_len(sheet, statement);
     if text.len() < len {
@@ -44,7 +44,7 @@ fn print_month(sheet: &[u8], statement: &[u32], text: &mut [u8]) -> usize
 // Past 1 to 7, by way of a list of 8n numbers.
 fn print_in(sheet: &[u8], statement: &mut [u32], text: &mut [u8]) -> usize
     requires { ⌜ (checked 32 (now sheet) ≡ Accepted) × (length (now statement) ≡ 8 * sheetOf (now sheet) .unitCount) ⌝ }
-    ensures { λ n. ⌜ Prints (printed (now (sheet .entry))) n (now (text .entry)) (now (text .exit)) ⌝ }
+    ensures { λ n. ⌜ Prints (settledSheet (now (sheet .entry))) n (now (text .entry)) (now (text .exit)) ⌝ }
 {
     match settlement::settle_checked(sheet, statement) {
         Outcome::Refused(r) => print_refusal(r, text),
@@ -54,7 +54,7 @@ fn print_in(sheet: &[u8], statement: &mut [u32], text: &mut [u8]) -> usize
 
 fn print_checked(sheet: &[u8], text: &mut [u8]) -> usize
     requires { ⌜ checked 32 (now sheet) ≡ Accepted ⌝ }
-    ensures { λ n. ⌜ Prints (printed (now (sheet .entry))) n (now (text .entry)) (now (text .exit)) ⌝ }
+    ensures { λ n. ⌜ Prints (settledSheet (now (sheet .entry))) n (now (text .entry)) (now (text .exit)) ⌝ }
 {
     let n = header::header_field(sheet, header::UNIT_COUNT) as usize;
     let mut statement = [0u32; 1280];
@@ -63,7 +63,7 @@ fn print_checked(sheet: &[u8], text: &mut [u8]) -> usize
 
 // Any bytes: how long their text is. A list at least as long has it at its front, a shorter one keeps its contents.
 pub fn print(sheet: &[u8], text: &mut [u8]) -> usize
-    ensures { λ n. ⌜ (n ≡ length (printed (now (sheet .entry)))) × (n ≤ 15889) ⌝ }
+    ensures { λ n. ⌜ (n ≡ length (printed (now (sheet .entry)))) × (n ≤ longest (settledSheet (now (sheet .entry)))) ⌝ }
     ensures { λ _. ⌜ now (text .exit) ≡ atFront (printed (now (sheet .entry))) (now (text .entry)) ⌝ }
 {
     match sheet::check_sheet(sheet) {

@@ -1,8 +1,9 @@
 -- 1 to 7, else what the checked sheet prints.
 use mathlib.Core.Path.{_≡_, sym, ap, subst, _∙_}
-use mathlib.Core.List.{List}
+use Rattle.month.specs.Month.{Settled}
 use Prim.Native.Nat.{ℕ}
 use native.Mathlib.Omega.{arith}
+use Rattle.printing.specs.Printed.{printed}
 use Rattle.printing.specs.Inner.Placed.{Prints}
 use Rattle.printing.proofs.Answers.{refused-sheet}
 use borrow.Author.Needs.{needs}
@@ -28,16 +29,18 @@ same-length : tie.Need-same-length
 same-length c = search needs
 
 returns : tie.Need-returns
+unfolding printed
 returns c =
     let st = c .before .before .before .before .before .before .before .before .before .before in
     let p = c .before .before .print-refusal in
-    let r = subst (λ (t : List ℕ). Prints t (p .result) (st .args .text .now) (p .last .1 .0)) (sym (refused-sheet (st .args .sheet .now) _ (sym (c .before .before .before .before .before .before .before .check-sheet .ensures) ∙ c .before .before .before .before .before .r .given .1))) (p .ensures) in
+    let r = subst (λ (x : Settled). Prints x (p .result) (st .args .text .now) (p .last .1 .0)) (sym (refused-sheet (st .args .sheet .now) _ (sym (c .before .before .before .before .before .before .before .check-sheet .ensures) ∙ c .before .before .before .before .before .r .given .1))) (p .ensures) in
     ((r .long, r .short), r .list)
 
 same-length-2 : tie.Need-same-length-2
 same-length-2 c = search needs
 
 returns-2 : tie.Need-returns-2
+unfolding printed
 returns-2 c = search needs
 
 pub print-spec : {M : Type 1} → statement M

@@ -1,12 +1,12 @@
 -- 8 to 12, else the month.
 use mathlib.Core.Path.{_≡_, sym, subst, _∙_}
-use mathlib.Core.List.{List}
 use Prim.Native.Nat.{ℕ}
 use native.Mathlib.Omega.{arith}
 use Rattle.sheet.proofs.Fits.{fits}
-use Rattle.settlement.proofs.Answers.{statement-is}
+use Rattle.month.specs.Month.{Settled}
+use Rattle.settlement.proofs.Answers.{settles, statement-is}
 use Rattle.printing.specs.Inner.Placed.{Prints}
-use Rattle.printing.proofs.Answers.{refused-month, settled-month}
+use Rattle.printing.proofs.Answers.{refused-month}
 use borrow.Author.Needs.{needs}
 use Rattle.printing.proofs.text.print_in.Statement.{statement}
 use Rattle.printing.proofs.text.print_in.Tie as tie
@@ -41,7 +41,7 @@ returns c =
     let st = c .before .before .before .before .before .before .before .before .before .before .before .before .before .before in
     let o = c .before .before .before .before .before .before .before .before .before .settle-checked in
     let p = c .before .before .print-refusal in
-    subst (λ (t : List ℕ). Prints t (p .result) (st .args .text .now) (p .last .1 .0)) (sym (refused-month (st .args .sheet .now) (st .args .statement .now) (st .pre .0) (st .pre .1) _ (sym (o .ensures .0) ∙ c .before .before .before .before .before .r .given .1))) (p .ensures)
+    subst (λ (x : Settled). Prints x (p .result) (st .args .text .now) (p .last .1 .0)) (sym (refused-month (st .args .sheet .now) (st .args .statement .now) (st .pre .0) (st .pre .1) _ (sym (o .ensures .0) ∙ c .before .before .before .before .before .r .given .1))) (p .ensures)
 
 same-length-3 : tie.Need-same-length-3
 same-length-3 c = search needs
@@ -54,7 +54,7 @@ returns-2 c =
     let st = c .before .before .before .before .before .before .before .before .before .before .before .before .before .before in
     let o = c .before .before .before .before .before .before .before .before .before .settle-checked in
     let p = c .before .before .print-month in
-    subst (λ (t : List ℕ). Prints t (p .result) (st .args .text .now) (p .last .1 .1 .0)) (sym (settled-month (st .args .sheet .now) (st .args .statement .now) (st .pre .0) (st .pre .1) (sym (o .ensures .0) ∙ c .before .before .before .before .before .enum-told .given .1))) (p .ensures)
+    subst (λ (x : Settled). Prints x (p .result) (st .args .text .now) (p .last .1 .1 .0)) (sym (settles (st .args .sheet .now) (st .args .statement .now) (st .pre .0) (st .pre .1) (sym (o .ensures .0) ∙ c .before .before .before .before .before .enum-told .given .1))) (p .ensures)
 
 pub print-in-spec : {M : Type 1} → statement M
 print-in-spec =

@@ -6,7 +6,7 @@ use native.Mathlib.Omega.{arith}
 use lib.ListN.{length, length-append}
 use Rattle.sheet.specs.Layout.{sheetOf}
 use Rattle.month.specs.Month.{Month, settled, statementOf, monthOf}
-use Rattle.printing.specs.Printed.{firstLine, unitLines, textOf}
+use Rattle.printing.specs.Printed.{firstLine, unitLines, textOf, longest}
 use Rattle.printing.specs.Inner.Placed.{Placed}
 use Rattle.printing.proofs.Placing.{then-placed}
 use Rattle.printing.proofs.Answers.{list-too-short, put-at-front}
@@ -25,8 +25,9 @@ text-is c = ap (λ (l : List ℕ). firstLine (monthIn c) ++ unitLines (monthIn c
 long : (c : tie.After-unit-lines-len) → c .before .first-line-len .result + c .unit-lines-len .result ≡ length (textOf (settled (monthIn c)))
 long c = omega (arith, c .before .first-line-len .ensures .0, c .unit-lines-len .ensures .0, ap length (text-is c), length-append (firstLine (monthIn c)) (unitLines (monthIn c .ids) (c .before .before .before .before .before .args .statement .now)))
 
-short : (c : tie.After-unit-lines-len) → length (textOf (settled (monthIn c))) ≤ 15889
-short c = omega (arith, long c, c .before .first-line-len .ensures .1, c .unit-lines-len .ensures .1, c .before .before .before .before .before .pre .0 .header .unitCount)
+short : (c : tie.After-unit-lines-len) → length (textOf (settled (monthIn c))) ≤ longest (settled (monthIn c))
+unfolding monthOf
+short c = omega (arith, long c, c .before .first-line-len .ensures .1, c .unit-lines-len .ensures .1)
 
 first-line-len-requires : tie.Need-first-line-len-requires
 first-line-len-requires c κs = search needs
@@ -38,7 +39,7 @@ add-len : tie.Need-add-len
 add-len c = search needs
 
 returns : tie.Need-returns
-returns c = list-too-short _ (c .before .before .before .before .before .before .args .text .now) (short (c .before)) _ (long (c .before)) (c .if1 .taken)
+returns c = list-too-short (settled (monthIn (c .before))) (c .before .before .before .before .before .before .args .text .now) (short (c .before)) _ (long (c .before)) (c .if1 .taken)
 
 put-first-line-requires : tie.Need-put-first-line-requires
 put-first-line-requires c κs = search needs
@@ -52,7 +53,7 @@ same-length c = search needs
 returns-2 : tie.Need-returns-2
 returns-2 c =
     let p = c .before .before .put-unit-lines in
-    put-at-front _ (c .before .before .before .before .before .before .before .before .before .before .before .before .before .before .args .text .now) (short (c .before .before .before .before .before .before .before .before .before)) (omega (arith, long (c .before .before .before .before .before .before .before .before .before), c .before .before .before .before .before .before .before .before .if1 .left))
+    put-at-front (settled (monthIn (c .before .before .before .before .before .before .before .before .before))) (c .before .before .before .before .before .before .before .before .before .before .before .before .before .before .args .text .now) (short (c .before .before .before .before .before .before .before .before .before)) (omega (arith, long (c .before .before .before .before .before .before .before .before .before), c .before .before .before .before .before .before .before .before .if1 .left))
     (subst (λ (t : List ℕ). Placed t (c .before .before .before .before .before .before .before .before .before .before .before .before .before .before .args .text .now) 0 (p .last .1 .1 .0) (p .result)) (text-is (c .before .before .before .before .before .before .before .before .before)) (then-placed (c .before .before .before .before .before .before .put-first-line .ensures) (p .ensures)))
 
 pub print-month-spec : {M : Type 1} → statement M
