@@ -20,7 +20,7 @@ use Rattle.printing.specs.Printed.{firstLine, unitLines, refusalLine}
 use Rattle.printing.proofs.Decimals.{decimal-short}
 
 -- ---- a line in the parts that the code puts, and how long it is
-module _ (r : Refusal) (number place : ℕ) (is₁ : number ≡ numberOf r) (is₂ : place ≡ placeOf r) where
+module _ (r : Refusal) {number place : ℕ} (is₁ : number ≡ numberOf r) (is₂ : place ≡ placeOf r) where
   pub refusal-line-parts : (ascii "refused " ++ decimal number) ++ ((ascii " " ++ decimal place) ++ ascii "\n") ≡ refusalLine r
   unfolding refusalLine
   refusal-line-parts = rw (is₁, is₂)
@@ -28,10 +28,17 @@ module _ (r : Refusal) (number place : ℕ) (is₁ : number ≡ numberOf r) (is�
   pub refusal-line-long : length (refusalLine r) ≡ 10 + length (decimal number) + length (decimal place)
   refusal-line-long = rw (← refusal-line-parts) (simp length-append (omega arith))
 
-module _ (m : Month) (month count meter bill : ℕ) (is₁ : month ≡ m .month) (is₂ : count ≡ m .unitCount) (is₃ : meter ≡ m .meter) (is₄ : bill ≡ m .bill) where
+-- the numbers of the first line
+pub record FirstLine (m : Month) (a b c d : ℕ) : Type 0 where
+  pub month : a ≡ m .month
+  pub count : b ≡ m .unitCount
+  pub meter : c ≡ m .meter
+  pub bill : d ≡ m .bill
+
+module _ {m : Month} {month count meter bill : ℕ} (are : FirstLine m month count meter bill) where
   pub first-line-parts : (ascii "month " ++ decimal month) ++ ((ascii " units " ++ decimal count) ++ ((ascii " wh " ++ decimal meter) ++ ((ascii " cents " ++ decimal bill) ++ ascii "\n"))) ≡ firstLine m
   unfolding firstLine
-  first-line-parts = rw (is₁, is₂, is₃, is₄)
+  first-line-parts = rw (are .month, are .count, are .meter, are .bill)
 
   pub first-line-long : length (firstLine m) ≡ 25 + length (decimal month) + length (decimal count) + length (decimal meter) + length (decimal bill)
   first-line-long = rw (← first-line-parts) (simp length-append (omega arith))
@@ -45,7 +52,7 @@ first-short {bytes = bytes} fits =
     let count = decimal-short 2 (s .unitCount) (omega arith) in
     let meter = decimal-short 9 (s .sharedMeter) (omega arith) in
     let bill = decimal-short 8 (billCents s) (omega (arith, sum-bounds s (fits-checked fits) .bill)) in
-    omega (arith, first-line-long (monthOf s) (s .month) (s .unitCount) (s .sharedMeter) (billCents s) refl refl refl refl)
+    omega (arith, first-line-long {m = monthOf s} (record { month = refl; count = refl; meter = refl; bill = refl }))
 
 -- ---- one number further
 pub further-next : (numbers : List ℕ) (j : ℕ) → j < length numbers → further (map decimal (drop j numbers)) ≡ (ascii " " ++ decimal (getD numbers j 0)) ++ further (map decimal (drop (j + 1) numbers))
@@ -63,13 +70,13 @@ pub id-at : (bytes : List ℕ) (i : ℕ) → getD (monthOf (sheetOf bytes) .ids)
 unfolding monthOf unitRow
 id-at bytes i = List·getD-map (λ u. u .id) (sheetOf bytes .units) i (unitRow [])
 
--- The code hands on the part of the statement from 8 i up to 8 i + 8.
+-- The code hands on the part of the statement from 8 i up to 8 (i + 1).
 module _ (statement : List ℕ) (i : ℕ) where
   abbrev pub eight : List ℕ
-  eight = take (8 * i + 8 - 8 * i) (drop (8 * i) statement)
+  eight = take (8 * (i + 1) - 8 * i) (drop (8 * i) statement)
 
   pub eight-long : 8 * i + 8 ≤ length statement → length eight ≡ 8
-  eight-long h = omega (arith, length-take-le (8 * i + 8 - 8 * i) (drop (8 * i) statement) (omega (arith, length-drop (8 * i) statement)))
+  eight-long h = omega (arith, length-take-le (8 * (i + 1) - 8 * i) (drop (8 * i) statement) (omega (arith, length-drop (8 * i) statement)))
 
 module _ (bytes statement : List ℕ) (i : ℕ) where
   abbrev ids : List ℕ
@@ -79,7 +86,7 @@ module _ (bytes statement : List ℕ) (i : ℕ) where
   unfolding unitLines
   lines-next h e =
       let next : 8 * (i + 1) ≡ 8 * i + 8 = omega arith in
-      let part : 8 * i + 8 - 8 * i ≡ 8 = omega arith in
+      let part : 8 * (i + 1) - 8 * i ≡ 8 = omega arith in
       rw (part, next, add-one, ← drop-drop 8 (8 * i) statement, drop-cons ids i 0 (omega (arith, ids-count bytes)), id-at bytes i, e)
 
   pub lines-none : sheetOf bytes .unitCount ≤ i → unitLines (drop i ids) (drop (8 * i) statement) ≡ []

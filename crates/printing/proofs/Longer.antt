@@ -1,7 +1,7 @@
 -- Bytes that are more than any sheet has: what is refused of them stands in the header. Assumes nothing.
 use mathlib.Core.Path.{_≡_, refl, sym, ap, _∙_}
 use mathlib.Core.Bool.{Bool, true, false}
-use mathlib.Core.List.{List, [], _∷_, _++_, map}
+use mathlib.Core.List.{List, _++_, map}
 use mathlib.Core.Logic.{inl, inr}
 use Prim.Native.Nat.{ℕ, _+_, _*_, _≤_, _<_}
 use native.Mathlib.Omega.{arith}
@@ -17,7 +17,7 @@ use Rattle.sheet.specs.Check.{passes, _to_, headerTests, sameList, sheetMagic, 
 use Rattle.sheet.proofs.Passed.{all-of, in-range}
 use Rattle.sheet.proofs.Units.{sheet-append}
 use Rattle.sheet.proofs.Verdict.{bad-magic, bad-version, bad-header}
-use Rattle.month.specs.Month.{Settled, refused, settleRules, settledSheet}
+use Rattle.month.specs.Month.{refused, settleRules, settledSheet}
 use Rattle.month.proofs.Lists.{decided}
 use Rattle.printing.specs.Printed.{textOf, printed}
 use Rattle.printing.specs.Theorems.{FirstBytesDecide}

@@ -70,13 +70,14 @@ pub(crate) fn put_first_line(sheet: &[u8], text: &mut [u8]) -> usize
     requires { ⌜ Fits 32 (now sheet) × (length (firstLine (monthOf (sheetOf (now sheet)))) ≤ length (now text)) ⌝ }
     ensures { λ r. ⌜ Placed (firstLine (monthOf (sheetOf (now (sheet .entry))))) (now (text .entry)) 0 (now (text .exit)) r ⌝ }
 {
-    let month = header::header_field(sheet, header::MONTH);
-    let count = header::header_field(sheet, header::UNIT_COUNT);
-    let meter = header::header_field(sheet, header::SHARED_METER);
-    let at = put_labelled(b"month ", month as u64, text, 0);
-    let at = put_labelled(b" units ", count as u64, text, at);
-    let at = put_labelled(b" wh ", meter as u64, text, at);
-    let at = put_labelled(b" cents ", settlement::bill_cents(sheet), text, at);
+    let month = header::header_field(sheet, header::MONTH) as u64;
+    let count = header::header_field(sheet, header::UNIT_COUNT) as u64;
+    let meter = header::header_field(sheet, header::SHARED_METER) as u64;
+    let bill = settlement::bill_cents(sheet);
+    let at = put_labelled(b"month ", month, text, 0);
+    let at = put_labelled(b" units ", count, text, at);
+    let at = put_labelled(b" wh ", meter, text, at);
+    let at = put_labelled(b" cents ", bill, text, at);
     end_line(text, at)
 }
 
@@ -99,8 +100,9 @@ pub(crate) fn put_unit_lines(sheet: &[u8], statement: &[u32], text: &mut [u8], a
 {
     let mut end = at;
     for i in 0..statement.len() / 8 {
+        let next = i + 1;
         let start = 8 * i;
-        let stop = start + 8;
+        let stop = 8 * next;
         end = put_unit_line(
             rows::unit_field(sheet, i, rows::ID),
             &statement[start..stop],

@@ -3,9 +3,8 @@ use mathlib.Core.Path.{_≡_, refl}
 use mathlib.Core.List.{List, [], _∷_, _++_, map}
 use Prim.Native.Nat.{ℕ}
 use Prim.Native.String.{String}
-use lib.ListN.{take, drop}
 use Rattle.apportion.specs.Shares.{sharesBy}
-use Rattle.sheet.specs.declared.refusal.Refusal.the-variants.{IdOrder, UnmeteredExceedsHeat}
+use Rattle.sheet.specs.declared.refusal.Refusal.the-variants.{IdOrder}
 use Rattle.sheet.specs.Tests.{all, any}
 use Rattle.sheet.specs.Refusals.{firstRefusal}
 use Rattle.sheet.specs.Layout.{unitRow, rows, sheetOf, inBytes}

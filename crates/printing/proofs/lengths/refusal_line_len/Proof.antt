@@ -1,10 +1,6 @@
 -- What is added is the length of the line.
 use borrow.Author.Needs.{needs}
-use mathlib.Core.Path.{ap, _∙_}
-use Prim.Native.Nat.{ℕ}
 use native.Mathlib.Omega.{arith}
-use lib.ListN.{length}
-use Rattle.printing.specs.Text.{decimal}
 use Rattle.printing.proofs.Lines.{refusal-line-long}
 use Rattle.printing.proofs.lengths.refusal_line_len.Statement.{statement}
 use Rattle.printing.proofs.lengths.refusal_line_len.Tie as tie
@@ -31,7 +27,7 @@ returns : tie.Need-returns
 returns c =
     let number = c .before .before .before .number in
     let place = c .before .place in
-    (omega (arith, refusal-line-long (c .before .before .before .before .args .r) (number .result) (place .result) (number .ensures) (place .ensures)), omega arith)
+    (omega (arith, refusal-line-long (c .before .before .before .before .args .r) (number .ensures) (place .ensures)), omega arith)
 
 pub refusal-line-len-spec : {M : Type 1} → statement M
 refusal-line-len-spec =

@@ -22,11 +22,14 @@ abbrev μ-loop : tie.MeasureT-loop
 loop-holds : tie.Need-loop-holds Inv-loop μ-loop
 loop-holds c = (omega arith, omega arith, omega arith, omega arith)
 
-mul-at : tie.Need-mul-at Inv-loop μ-loop
-mul-at c = search needs
+mul-start : tie.Need-mul-start Inv-loop μ-loop
+mul-start c = search needs
 
-add-end : tie.Need-add-end Inv-loop μ-loop
-add-end c = search needs
+add-stop : tie.Need-add-stop Inv-loop μ-loop
+add-stop c = search needs
+
+mul-stop : tie.Need-mul-stop Inv-loop μ-loop
+mul-stop c = search needs
 
 unit-field-requires : tie.Need-unit-field-requires Inv-loop μ-loop
 unit-field-requires c κs = search needs
@@ -76,8 +79,9 @@ unit-lines-len-spec =
     Inv-loop
     μ-loop
     loop-holds
-    mul-at
-    add-end
+    mul-start
+    add-stop
+    mul-stop
     unit-field-requires
     mul-unit-line-len
     sub-unit-line-len

@@ -3,7 +3,6 @@ use mathlib.Core.Path.{refl, subst}
 use mathlib.Core.List.{List}
 use Prim.Native.Nat.{ℕ}
 use native.Mathlib.Omega.{arith}
-use Rattle.sheet.specs.Refusals.{placeOf}
 use Rattle.printing.specs.Inner.Placed.{Placed}
 use Rattle.printing.proofs.Placing.{then-placed}
 use Rattle.printing.proofs.Lines.{refusal-line-parts, refusal-line-long}
@@ -21,7 +20,7 @@ cast-put-labelled : tie.Need-cast-put-labelled
 cast-put-labelled c = search needs
 
 put-labelled-requires : tie.Need-put-labelled-requires
-put-labelled-requires c κs = let a = c .before .before .before .before .args in omega (arith, refusal-line-long (a .r) _ (placeOf (a .r)) (c .before .number .ensures) refl)
+put-labelled-requires c κs = let a = c .before .before .before .before .args in omega (arith, refusal-line-long (a .r) (c .before .number .ensures) refl)
 
 place-requires : tie.Need-place-requires
 place-requires c κs = search needs
@@ -31,7 +30,7 @@ put-spaced-requires c κs =
     let n = c .before .before .before .before .before .before .number in
     let p = c .before .place in
     let a = c .before .before .before .before .put-labelled in
-    omega (arith, refusal-line-long (c .before .before .before .before .before .before .before .before .before .args .r) (n .result) (p .result) (n .ensures) (p .ensures), a .ensures .ends, a .kept)
+    omega (arith, refusal-line-long (c .before .before .before .before .before .before .before .before .before .args .r) (n .ensures) (p .ensures), a .ensures .ends, a .kept)
 
 end-line-requires : tie.Need-end-line-requires
 end-line-requires c κs =
@@ -39,7 +38,7 @@ end-line-requires c κs =
     let p = c .before .before .before .before .before .place in
     let a = c .before .before .before .before .before .before .before .before .put-labelled in
     let b = c .before .before .before .put-spaced in
-    omega (arith, refusal-line-long (c .before .before .before .before .before .before .before .before .before .before .before .before .before .args .r) (n .result) (p .result) (n .ensures) (p .ensures), a .ensures .ends, a .kept, b .ensures .ends, b .kept)
+    omega (arith, refusal-line-long (c .before .before .before .before .before .before .before .before .before .before .before .before .before .args .r) (n .ensures) (p .ensures), a .ensures .ends, a .kept, b .ensures .ends, b .kept)
 
 same-length : tie.Need-same-length
 same-length c = search needs
@@ -49,7 +48,7 @@ returns c =
     let n = c .before .before .before .before .before .before .before .before .before .before .before .before .before .number in
     let p = c .before .before .before .before .before .before .before .before .place in
     subst (λ (t : List ℕ). Placed t (c .before .before .before .before .before .before .before .before .before .before .before .before .before .before .before .before .args .text .now) 0 (c .before .before .end-line .last .0) (c .before .before .end-line .result))
-    (refusal-line-parts (c .before .before .before .before .before .before .before .before .before .before .before .before .before .before .before .before .args .r) (n .result) (p .result) (n .ensures) (p .ensures))
+    (refusal-line-parts (c .before .before .before .before .before .before .before .before .before .before .before .before .before .before .before .before .args .r) (n .ensures) (p .ensures))
     (then-placed (c .before .before .before .before .before .before .before .before .before .before .before .put-labelled .ensures) (then-placed (c .before .before .before .before .before .before .put-spaced .ensures) (c .before .before .end-line .ensures)))
 
 pub put-refusal-line-spec : {M : Type 1} → statement M

@@ -28,11 +28,14 @@ abbrev μ-loop : tie.MeasureT-loop
 loop-holds : tie.Need-loop-holds Inv-loop μ-loop
 loop-holds c = (omega arith, omega (arith, c .before .before .before .pre .0 .1), refl, begins _ _ _)
 
+add-next : tie.Need-add-next Inv-loop μ-loop
+add-next c = search needs
+
 mul-start : tie.Need-mul-start Inv-loop μ-loop
 mul-start c = search needs
 
-add-stop : tie.Need-add-stop Inv-loop μ-loop
-add-stop c = search needs
+mul-stop : tie.Need-mul-stop Inv-loop μ-loop
+mul-stop c = search needs
 
 unit-field-requires : tie.Need-unit-field-requires Inv-loop μ-loop
 unit-field-requires c κs = search needs
@@ -87,8 +90,9 @@ put-unit-lines-spec =
     Inv-loop
     μ-loop
     loop-holds
+    add-next
     mul-start
-    add-stop
+    mul-stop
     unit-field-requires
     mul-put-unit-line
     sub-put-unit-line

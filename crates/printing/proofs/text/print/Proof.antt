@@ -1,8 +1,6 @@
 -- 1 to 7, else what the checked sheet prints.
-use mathlib.Core.Path.{_≡_, sym, ap, subst, _∙_}
+use mathlib.Core.Path.{sym, subst, _∙_}
 use Rattle.month.specs.Month.{Settled}
-use Prim.Native.Nat.{ℕ}
-use native.Mathlib.Omega.{arith}
 use Rattle.printing.specs.Printed.{printed}
 use Rattle.printing.specs.Inner.Placed.{Prints}
 use Rattle.printing.proofs.Answers.{refused-sheet}

@@ -1,5 +1,5 @@
 -- The first 8n places of the array are lent.
-use mathlib.Core.Path.{_≡_, sym, ap, _∙_}
+use mathlib.Core.Path.{sym, ap, _∙_}
 use Prim.Native.Nat.{ℕ, _*_, _≤_}
 use native.Mathlib.Omega.{arith}
 use Rattle.sheet.proofs.Fits.{fits}

@@ -1,6 +1,5 @@
 -- 8 to 12, else the month.
-use mathlib.Core.Path.{_≡_, sym, subst, _∙_}
-use Prim.Native.Nat.{ℕ}
+use mathlib.Core.Path.{sym, subst, _∙_}
 use native.Mathlib.Omega.{arith}
 use Rattle.sheet.proofs.Fits.{fits}
 use Rattle.month.specs.Month.{Settled}

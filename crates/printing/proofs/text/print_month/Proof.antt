@@ -1,11 +1,11 @@
 -- The lines are put where all of them have room.
-use mathlib.Core.Path.{_≡_, sym, ap, subst, _∙_}
+use mathlib.Core.Path.{_≡_, ap, subst}
 use mathlib.Core.List.{List, _++_}
 use Prim.Native.Nat.{ℕ, _+_, _≤_}
 use native.Mathlib.Omega.{arith}
 use lib.ListN.{length, length-append}
 use Rattle.sheet.specs.Layout.{sheetOf}
-use Rattle.month.specs.Month.{Month, settled, statementOf, monthOf}
+use Rattle.month.specs.Month.{Month, settled, monthOf}
 use Rattle.printing.specs.Printed.{firstLine, unitLines, textOf, longest}
 use Rattle.printing.specs.Inner.Placed.{Placed}
 use Rattle.printing.proofs.Placing.{then-placed}
