@@ -15,8 +15,8 @@ use sheet::Outcome;
 use sheet::Refusal;
 use sheet::header;
 
-// No text is longer: a first line of 49 bytes, and 160 lines of nine numbers with ten digits.
-pub const LONGEST: usize = 15889;
+// No text is longer: a first line has at most 49 bytes, and so has a refusal; a line of nine numbers with ten digits has 99.
+pub const LONGEST: usize = 49 + 99 * 160;
 
 fn print_refusal(r: Refusal, text: &mut [u8]) -> usize
     ensures { λ n. ⌜ Prints (refused r) n (now (text .entry)) (now (text .exit)) ⌝ }
