@@ -3,6 +3,7 @@ use mathlib.Core.Path.{_≡_, refl}
 use mathlib.Core.List.{List, [], _∷_, _++_, map}
 use Prim.Native.Nat.{ℕ}
 use Prim.Native.String.{String}
+use lib.ListN.{take}
 use Rattle.apportion.specs.Shares.{sharesBy}
 use Rattle.sheet.specs.declared.refusal.Refusal.the-variants.{IdOrder}
 use Rattle.sheet.specs.Tests.{all, any}
@@ -26,6 +27,10 @@ decimals = refl
 -- month 12, model 2, M 4,000,000,000 at the highest price; one unit with the highest id has it all
 abbrev largest : List ℕ
 largest = sheetBytes 12 2 0 0 0 0 0 0 4000000000 100000 (zeros 6) (unitBytes 4294967295 0 0 1000 10000 0 0 0 0 0 ∷ [])
+
+-- case A with more behind it than any sheet has
+abbrev longer : List ℕ
+longer = caseA ++ zeros 5100
 
 infix 15 _prints_
 pub data Case : Type 0 where
@@ -52,6 +57,8 @@ cases =
     ∷ ([] prints "refused 1 0\n" ∷ [])
     ∷ (put 116 5 caseA prints "refused 6 2\n" ∷ [])  -- status 5 in the third row
     ∷ (put 116 1 (put 133 0 (put 132 0 caseA)) prints "refused 12 0\n" ∷ [])  -- the third unit without a device
+    ∷ (longer prints "refused 5 0\n" ∷ [])
+    ∷ (take 5169 longer prints "refused 5 0\n" ∷ [])
     ∷ (largest prints
     "month 12 units 1 wh 4000000000 cents 400000000\n"
     ∷ "4294967295 4000000000 0 0 0 400000000 0 0 0\n"
