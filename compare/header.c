@@ -29,8 +29,8 @@ static void lengths(void)
     EXPECT(HEATCOST_STATEMENT_LEN(1 + 2), 24);
     EXPECT(HEATCOST_RECORD_LEN(1 + 2), 248);
     EXPECT(HEATCOST_RECORD_LEN(HEATCOST_MAX_UNITS), 10296);
-    EXPECT(HEATCOST_TEXT_LEN(1 + 2), 346);
-    EXPECT(HEATCOST_TEXT_LEN(HEATCOST_MAX_UNITS), 15889);
+    EXPECT(HEATCOST_PRINT_LEN(1 + 2), 346);
+    EXPECT(HEATCOST_PRINT_LEN(HEATCOST_MAX_UNITS), 15889);
 }
 
 static void answers(void)
@@ -89,7 +89,7 @@ static void nulls(void)
 static void *print_write_and_read(void *meter)
 {
     uint8_t sheet[HEATCOST_SHEET_LEN(1)];
-    uint8_t text[HEATCOST_TEXT_LEN(1)];
+    uint8_t text[HEATCOST_PRINT_LEN(1)];
     uint8_t record[HEATCOST_RECORD_LEN(1)];
     unsigned long wh = 256ul * *(const uint8_t *)meter;
     unsigned long cents = (wh * 65536 + 500000) / 1000000;

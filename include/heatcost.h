@@ -1,6 +1,7 @@
 /* Heat cost settlement under the Croatian Regulation NN 140/25: the calls of libheatcost.a, which `rt staticlib
  * heatcost` builds for Linux on x86-64. This header is C99 and C++. docs/FORMAT.md has the layouts of sheet,
- * statement, record and year book, and for each refusal what to correct; examples/ shows the calls in use.
+ * statement, record, year book and printed text, and for each refusal what to correct; examples/ shows the calls in
+ * use.
  *
  * n is the number of units behind the shared meter, 1 to HEATCOST_MAX_UNITS: bytes 8 and 9 of a sheet, low byte first.
  * A sheet has a month, but neither year nor building: keep these beside it, for example in a file's name.
@@ -13,6 +14,7 @@
  * Answers. A uint64_t is a length. A uint32_t is 0 for accepted, else the refusal's number + 256 * its place: for 6
  * and 7 the row, counted from 0; for all others 0. Refusals are tested in the order that stands with the call, 6 and 7
  * row by row, and the first that holds is the answer. A refused call leaves every list, the book too, as it was.
+ * Printing is never refused: a refusal has a text too.
  *
  * Threads. Nothing is kept between calls, and the library has no data that it writes. Calls may run side by side as
  * long as no list that one of them writes is used by another.
@@ -40,7 +42,7 @@
 #define HEATCOST_SHEET_LEN(n) (48u + 32u * (n))
 #define HEATCOST_STATEMENT_LEN(n) (8u * (n))
 #define HEATCOST_RECORD_LEN(n) (56u + 64u * (n))
-#define HEATCOST_TEXT_LEN(n) (49u + 99u * (n))
+#define HEATCOST_PRINT_LEN(n) (49u + 99u * (n))
 
 /* The numbers of a year book (uint32_t), and those that the year call writes (uint64_t). */
 #define HEATCOST_BOOK_LEN 15557
@@ -128,7 +130,7 @@ extern "C" {
 uint32_t heatcost_settle(const uint8_t *sheet, size_t sheet_len, uint32_t *statement, size_t statement_len);
 
 /* Prints a sheet: its month, or the line of its refusal, 1 to 12 (docs/FORMAT.md, "The printed form"). Answers how many
- * bytes that text has, no zero byte among them: at most HEATCOST_TEXT_LEN(n), refused at most HEATCOST_TEXT_LEN(0).
+ * bytes that text has, no zero byte among them: at most HEATCOST_PRINT_LEN(n), refused at most HEATCOST_PRINT_LEN(0).
  * Writes it to the front of a list that is long enough and leaves what stands behind it; a shorter list stays as it
  * was. So NULL and 0 ask for the length alone. */
 uint64_t heatcost_print(const uint8_t *sheet, size_t sheet_len, uint8_t *text, size_t text_len);

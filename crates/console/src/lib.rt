@@ -1,8 +1,4 @@
-// Texts, numbers and answers on standard output, sheets and numbers from standard input: what the programs share.
-mod program;
-
-pub use program::print;
-pub use program::run;
+// Numbers and answers on standard output, numbers from standard input: what the programs share.
 ghost use Prim.Native.Nat.{_<_};
 use libc::STDIN_FILENO;
 use libc::STDOUT_FILENO;

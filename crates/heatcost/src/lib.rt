@@ -1,4 +1,4 @@
-// The calls for other languages. An answer is 0 when accepted, else number + 256 × place.
+// The calls for other languages. An answer of 32 bits is 0 when accepted, else number + 256 × place; one of 64 bits is a length.
 ghost use mathlib.Core.Path.{_≡_};
 ghost use mathlib.Core.List.{_∷_};
 ghost use Prim.Native.Nat.{_≤_};

@@ -32,6 +32,7 @@ unitLines (id ∷ ids) statement = line (decimal id) (map decimal (take 8 statem
 unfoldable pub refusalLine : Refusal → List ℕ
 refusalLine r = line (ascii "refused") (decimal (numberOf r) ∷ decimal (placeOf r) ∷ [])
 
+-- the text of a refused or settled sheet
 abbrev pub textOf : Settled → List ℕ
 textOf (refused r) = refusalLine r
 textOf (settled m) = firstLine m ++ unitLines (m .ids) (m .numbers)
@@ -40,7 +41,7 @@ textOf (settled m) = firstLine m ++ unitLines (m .ids) (m .numbers)
 unfoldable pub printed : List ℕ → List ℕ
 printed bytes = textOf (settledSheet bytes)
 
--- No text is longer: a refusal's line and a first line have at most 49 bytes, a unit's line at most 99.
+-- No text is longer: a first line has at most 49 bytes, a unit's line at most 99, and a refusal's line is shorter than the longest first line.
 abbrev pub longest : Settled → ℕ
 longest (refused r) = 49
 longest (settled m) = 49 + 99 * m .unitCount

@@ -6,7 +6,7 @@ use Prim.Native.String.{String, [] as end, _∷_ as _then_}
 use lib.Dec.{ltb}
 use Rattle.sheet.specs.Tests.{if_then_else_}
 
--- the bytes of a text
+-- the characters' codes, which are the bytes of a text in ASCII
 abbrev pub ascii : String → List ℕ
 ascii end = []
 ascii (c then s) = code c ∷ ascii s

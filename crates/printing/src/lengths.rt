@@ -68,8 +68,9 @@ pub(crate) fn unit_lines_len(sheet: &[u8], statement: &[u32]) -> usize
 {
     let mut len = 0;
     for i in 0..statement.len() / 8 {
+        let next = i + 1;
         let start = 8 * i;
-        let stop = 8 * (i + 1);
+        let stop = 8 * next;
         len += unit_line_len(
             rows::unit_field(sheet, i, rows::ID),
             &statement[start..stop],

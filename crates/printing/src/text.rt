@@ -15,7 +15,7 @@ use sheet::Outcome;
 use sheet::Refusal;
 use sheet::header;
 
-// No text is longer: a first line has at most 49 bytes, and so has a refusal; a line of nine numbers with ten digits has 99.
+// The longest text, of 160 units.
 pub const LONGEST: usize = 49 + 99 * 160;
 
 fn print_refusal(r: Refusal, text: &mut [u8]) -> usize
@@ -33,9 +33,9 @@ fn print_month(sheet: &[u8], statement: &[u32], text: &mut [u8]) -> usize
     requires { ⌜ Fits 32 (now sheet) × (now statement ≡ statementOf (sheetOf (now sheet))) × (length (now statement) ≡ 8 * sheetOf (now sheet) .unitCount) ⌝ }
     ensures { λ n. ⌜ Prints (settled (monthOf (sheetOf (now (sheet .entry))))) n (now (text .entry)) (now (text .exit)) ⌝ }
 {
-    let len = lengths::first_line_len(sheet) + lengths::unit_lines_len(sheet, statement);
-    if text.len() < len {
-        return len;
+    let whole = lengths::first_line_len(sheet) + lengths::unit_lines_len(sheet, statement);
+    if text.len() < whole {
+        return whole;
     }
     let at = render::put_first_line(sheet, text);
     render::put_unit_lines(sheet, statement, text, at)

@@ -60,7 +60,7 @@ fn unit_count(sheet: &[u8]) -> usize
 }
 
 fn answer_sheet(sheet: &[u8]) {
-    console::print(sheet);
+    program::print(sheet);
     let len = 8 * unit_count(sheet);
     settle_with(sheet, len);
     settle_with(sheet, len + 1);

@@ -1,4 +1,4 @@
 // Prints the statement of the sheet on standard input (document 01, "Printing").
 fn main() {
-    console::run();
+    program::run();
 }

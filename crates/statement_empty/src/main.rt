@@ -1,4 +1,4 @@
 // The program `statement` on empty input.
 fn main() {
-    console::run();
+    program::run();
 }

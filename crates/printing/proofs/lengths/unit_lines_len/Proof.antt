@@ -22,11 +22,11 @@ abbrev μ-loop : tie.MeasureT-loop
 loop-holds : tie.Need-loop-holds Inv-loop μ-loop
 loop-holds c = (omega arith, omega arith, omega arith, omega arith)
 
+add-next : tie.Need-add-next Inv-loop μ-loop
+add-next c = search needs
+
 mul-start : tie.Need-mul-start Inv-loop μ-loop
 mul-start c = search needs
-
-add-stop : tie.Need-add-stop Inv-loop μ-loop
-add-stop c = search needs
 
 mul-stop : tie.Need-mul-stop Inv-loop μ-loop
 mul-stop c = search needs
@@ -79,8 +79,8 @@ unit-lines-len-spec =
     Inv-loop
     μ-loop
     loop-holds
+    add-next
     mul-start
-    add-stop
     mul-stop
     unit-field-requires
     mul-unit-line-len

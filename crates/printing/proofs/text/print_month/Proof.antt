@@ -35,8 +35,8 @@ first-line-len-requires c κs = search needs
 unit-lines-len-requires : tie.Need-unit-lines-len-requires
 unit-lines-len-requires c κs = search needs
 
-add-len : tie.Need-add-len
-add-len c = search needs
+add-whole : tie.Need-add-whole
+add-whole c = search needs
 
 returns : tie.Need-returns
 returns c = list-too-short (settled (monthIn (c .before))) (c .before .before .before .before .before .before .args .text .now) (short (c .before)) _ (long (c .before)) (c .if1 .taken)
@@ -62,7 +62,7 @@ print-month-spec =
     (tie.spec
     first-line-len-requires
     unit-lines-len-requires
-    add-len
+    add-whole
     returns
     put-first-line-requires
     put-unit-lines-requires

@@ -2,8 +2,8 @@ use Prim.Native.Nat.{_-_, _≤_}
 use mathlib.Core.Path.{_≡_}
 use borrow.Author.Needs.{needs}
 use lib.ListN.{length}
-use Rattle.console.proofs.program.read_input.Statement.{statement}
-use Rattle.console.proofs.program.read_input.Tie as tie
+use Rattle.program.proofs.read_input.Statement.{statement}
+use Rattle.program.proofs.read_input.Tie as tie
 
 abbrev Inv-loop : tie.InvT-loop
 Inv-loop buffer₀ done₀ buffer done = (done ≤ length buffer) × (length buffer ≡ length buffer₀)

@@ -25,13 +25,14 @@ fn read_input(buffer: &mut [u8]) -> usize {
     done
 }
 
-// Hands the text of these bytes to standard output; whether all of it was written.
+// Takes only the text of the bytes beside it.
 fn write_text(sheet: &[u8], text: &[u8]) -> bool
     requires { ⌜ now text ≡ printed (now sheet) ⌝ }
 {
     io::write_all(STDOUT_FILENO, text)
 }
 
+// The text of these bytes on standard output; whether all of it was written.
 pub fn print(sheet: &[u8]) -> bool {
     let mut text = [0u8; printing::LONGEST];
     let n = printing::print(sheet, &mut text);

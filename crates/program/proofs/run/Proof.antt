@@ -1,8 +1,8 @@
 use native.Mathlib.Omega.{arith}
 use lib.ListN.{length-take}
 use borrow.Author.Needs.{needs}
-use Rattle.console.proofs.program.run.Statement.{statement}
-use Rattle.console.proofs.program.run.Tie as tie
+use Rattle.program.proofs.run.Statement.{statement}
+use Rattle.program.proofs.run.Tie as tie
 
 slice-aggregate-read-input : tie.Need-slice-aggregate-read-input
 slice-aggregate-read-input c = search needs

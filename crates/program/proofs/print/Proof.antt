@@ -7,8 +7,8 @@ use lib.ListN.{length, take, replicate, length-replicate}
 use Rattle.printing.specs.Printed.{printed}
 use Rattle.printing.proofs.Answers.{room-for-all, front-is}
 use borrow.Author.Needs.{needs}
-use Rattle.console.proofs.program.print.Statement.{statement}
-use Rattle.console.proofs.program.print.Tie as tie
+use Rattle.program.proofs.print.Statement.{statement}
+use Rattle.program.proofs.print.Tie as tie
 
 fits : (c : tie.After-print) → c .print .result ≤ 15889
 fits c = omega (arith, c .print .ensures .0, room-for-all (c .before .before .before .args .sheet .now))
