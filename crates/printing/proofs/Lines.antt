@@ -1,17 +1,17 @@
 -- Laws of the lines: how long they are, and one word or one unit further. Assumes nothing.
-use mathlib.Core.Path.{_≡_, refl, _∙_}
+use mathlib.Core.Path.{_≡_, refl}
 use mathlib.Core.List.{List, [], _++_, map}
 use Prim.Native.Nat.{ℕ, _+_, _-_, _*_, _≤_, _<_}
 use native.Mathlib.Omega.{arith}
 use native.Mathlib.Numerals.{add-one}
-use lib.ListN.{length, getD, take, drop, length-append, length-drop, length-map, drop-of-length-le, List·getD-map}
+use lib.ListN.{length, getD, take, drop, length-append, length-drop, drop-of-length-le}
 use lib.Seq.{length-take-le, drop-cons, drop-drop}
 use Rattle.sheet.specs.declared.refusal.Refusal.{Refusal}
 use Rattle.sheet.specs.Refusals.{numberOf, placeOf}
-use Rattle.sheet.specs.Layout.{sheetOf, unitRow}
+use Rattle.sheet.specs.Layout.{sheetOf}
 use Rattle.sheet.specs.Inner.Fields.{unitOf, rowField}
 use Rattle.sheet.specs.Inner.Fits.{Fits}
-use Rattle.sheet.proofs.Units.{units-count}
+use Rattle.sheet.proofs.Units.{ids-count, id-at}
 use Rattle.month.specs.Month.{Month, billCents, monthOf}
 use Rattle.month.proofs.Accepted.{fits-checked}
 use Rattle.month.proofs.Bounds.{sum-bounds}
@@ -62,14 +62,6 @@ pub further-none : (numbers : List ℕ) (j : ℕ) → length numbers ≤ j → f
 further-none numbers j h = rw (drop-of-length-le numbers h)
 
 -- ---- one unit further
-pub ids-count : (bytes : List ℕ) → length (monthOf (sheetOf bytes) .ids) ≡ sheetOf bytes .unitCount
-unfolding monthOf
-ids-count bytes = length-map (sheetOf bytes .units) (λ u. u .id) ∙ units-count bytes
-
-pub id-at : (bytes : List ℕ) (i : ℕ) → getD (monthOf (sheetOf bytes) .ids) i 0 ≡ rowField (unitOf (sheetOf bytes) i) 0
-unfolding monthOf unitRow
-id-at bytes i = List·getD-map (λ u. u .id) (sheetOf bytes .units) i (unitRow [])
-
 -- The code hands on the part of the statement from 8 i up to 8 (i + 1).
 module _ (statement : List ℕ) (i : ℕ) where
   abbrev pub eight : List ℕ
@@ -83,14 +75,14 @@ module _ (bytes statement : List ℕ) (i : ℕ) where
   ids = monthOf (sheetOf bytes) .ids
 
   pub lines-next : {id : ℕ} → i < sheetOf bytes .unitCount → id ≡ rowField (unitOf (sheetOf bytes) i) 0 → unitLines (drop i ids) (drop (8 * i) statement) ≡ line (decimal id) (map decimal (eight statement i)) ++ unitLines (drop (i + 1) ids) (drop (8 * (i + 1)) statement)
-  unfolding unitLines
+  unfolding unitLines monthOf
   lines-next h e =
       let next : 8 * (i + 1) ≡ 8 * i + 8 = omega arith in
       let part : 8 * (i + 1) - 8 * i ≡ 8 = omega arith in
-      rw (part, next, add-one, ← drop-drop 8 (8 * i) statement, drop-cons ids i 0 (omega (arith, ids-count bytes)), id-at bytes i, e)
+      rw (part, next, add-one, ← drop-drop 8 (8 * i) statement, drop-cons ids i 0 (omega (arith, ids-count bytes)), id-at (sheetOf bytes) i, e)
 
   pub lines-none : sheetOf bytes .unitCount ≤ i → unitLines (drop i ids) (drop (8 * i) statement) ≡ []
-  unfolding unitLines
+  unfolding unitLines monthOf
   lines-none h =
       let few : length ids ≤ i = omega (arith, ids-count bytes) in
       rw (drop-of-length-le ids few)

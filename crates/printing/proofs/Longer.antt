@@ -7,7 +7,7 @@ use Prim.Native.Nat.{ℕ, _+_, _*_, _≤_, _<_}
 use native.Mathlib.Omega.{arith}
 use borrow.Author.Tests.{leb-true, leb-false, le-ltb, eqb-true, eqb-false, ne-eqb}
 use lib.Dec.{leb, eqb}
-use lib.ListN.{length, getD, take, drop, length-append, take-append-drop, List·getD-append}
+use lib.ListN.{length, take, drop, length-append, take-append-drop}
 use lib.Seq.{length-take-le, take-append-le}
 use Rattle.sheet.specs.declared.refusal.Refusal.{Refusal}
 use Rattle.sheet.specs.declared.refusal.Refusal.the-variants.{BadMagic, UnsupportedVersion, HeaderField}
@@ -15,7 +15,7 @@ use Rattle.sheet.specs.Tests.{all}
 use Rattle.sheet.specs.Layout.{le16, Sheet, sheetOf}
 use Rattle.sheet.specs.Check.{passes, _to_, headerTests, sameList, sheetMagic, sheetRules}
 use Rattle.sheet.proofs.Passed.{all-of, in-range}
-use Rattle.sheet.proofs.Units.{sheet-append}
+use Rattle.sheet.proofs.Units.{le16-append, sheet-append}
 use Rattle.sheet.proofs.Verdict.{bad-magic, bad-version, bad-header}
 use Rattle.month.specs.Month.{refused, settleRules, settledSheet}
 use Rattle.month.proofs.Lists.{decided}
@@ -54,10 +54,9 @@ module _ (xs ys : List ℕ) (long : length xs ≡ 5169) where
   more : 160 < sheetOf xs .unitCount → settledSheet (xs ++ ys) ≡ settledSheet xs
   unfolding sheetOf
   more h =
-      let at : (k : ℕ) → k < 48 → getD (xs ++ ys) k 0 ≡ getD xs k 0 = λ k b. List·getD-append xs ys 0 k (omega arith) in
-      let magic : take 4 (xs ++ ys) ≡ take 4 xs = take-append-le 4 xs ys (omega arith) in
-      let version : le16 (xs ++ ys) 4 ≡ le16 xs 4 = omega (arith, at 4 (omega arith), at 5 (omega arith)) in
-      by-header (xs ++ ys) (omega (arith, length-append xs ys)) (omega (arith, at 8 (omega arith), at 9 (omega arith))) (sameList (take 4 xs) sheetMagic) (eqb (le16 xs 4) 1) (ap (λ (l : List ℕ). sameList l sheetMagic) magic) (ap (λ (n : ℕ). eqb n 1) version)
+      by-header (xs ++ ys) (omega (arith, length-append xs ys)) (omega (arith, le16-append xs ys 8 (omega arith))) (sameList (take 4 xs) sheetMagic) (eqb (le16 xs 4) 1)
+      (ap (λ (l : List ℕ). sameList l sheetMagic) (take-append-le 4 xs ys (omega arith)))
+      (ap (λ (n : ℕ). eqb n 1) (le16-append xs ys 4 (omega arith)))
       ∙ sym (by-header xs (omega arith) h (sameList (take 4 xs) sheetMagic) (eqb (le16 xs 4) 1) refl refl)
 
   same : settledSheet (xs ++ ys) ≡ settledSheet xs

@@ -6,7 +6,7 @@ use native.Mathlib.Omega.{arith}
 use native.Mathlib.Numerals.{add-one}
 use lib.ListN.{length, getD, take, drop, length-map, length-drop, List·getD-append, List·getD-map}
 use lib.Seq.{drop-drop, drop-cons, take-suc, take-append-le, drop-append-le}
-use Rattle.sheet.specs.Layout.{unitRow, rows, sheetOf, byte, le16, le32}
+use Rattle.sheet.specs.Layout.{Sheet, unitRow, rows, sheetOf, byte, le16, le32}
 use Rattle.sheet.specs.Inner.Fields.{unitRowAt, unitOf}
 
 -- ---- the rows
@@ -27,6 +27,14 @@ row-at (suc n) (suc i) bytes h =
 pub units-count : (bytes : List ℕ) → length (sheetOf bytes .units) ≡ sheetOf bytes .unitCount
 unfolding sheetOf
 units-count bytes = length-map (rows (le16 bytes 8) (drop 48 bytes)) unitRow ∙ rows-count (le16 bytes 8) (drop 48 bytes)
+
+-- the units' ids, and one of them as code reads it
+pub ids-count : (bytes : List ℕ) → length (map (λ u. u .id) (sheetOf bytes .units)) ≡ sheetOf bytes .unitCount
+ids-count bytes = length-map (sheetOf bytes .units) (λ u. u .id) ∙ units-count bytes
+
+pub id-at : (s : Sheet) (i : ℕ) → getD (map (λ u. u .id) (s .units)) i 0 ≡ unitOf s i .id
+unfolding unitRow
+id-at s i = List·getD-map (λ u. u .id) (s .units) i (unitRow [])
 
 module _ (bytes : List ℕ) (i : ℕ) (h : i < sheetOf bytes .unitCount) where
   -- unit i stands at byte 48 + 32 i
@@ -56,7 +64,7 @@ module _ (xs ys : List ℕ) where
   byte-append : (at : ℕ) → at < length xs → byte (xs ++ ys) at ≡ byte xs at
   byte-append at h = List·getD-append xs ys 0 at h
 
-  le16-append : (at : ℕ) → at + 1 < length xs → le16 (xs ++ ys) at ≡ le16 xs at
+  pub le16-append : (at : ℕ) → at + 1 < length xs → le16 (xs ++ ys) at ≡ le16 xs at
   le16-append at h = omega (arith, byte-append at (omega arith), byte-append (at + 1) h)
 
   le32-append : (at : ℕ) → at + 3 < length xs → le32 (xs ++ ys) at ≡ le32 xs at

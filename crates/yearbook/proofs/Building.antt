@@ -7,9 +7,8 @@ use native.Mathlib.Omega.{arith}
 use native.Mathlib.Decide.{ℕ-discrete}
 use lib.Dec.{eqb}
 use borrow.Author.Tests.{eq-eqb, ne-eqb}
-use lib.ListN.{length, getD, take, drop, List·getD-map}
-use Rattle.sheet.specs.Layout.{Sheet, unitRow}
-use Rattle.sheet.specs.Inner.Fields.{unitOf}
+use lib.ListN.{length, getD, take, drop}
+use Rattle.sheet.specs.Layout.{Sheet}
 use Rattle.sheet.specs.Check.{sameList}
 use Rattle.yearbook.specs.LentBook.{idsAt, unitCountIn, otherBuilding}
 
@@ -44,11 +43,6 @@ same-sym (x ∷ xs) [] = refl
 same-sym (x ∷ xs) (y ∷ ys) = ap₂ _&&_ (eqb-sym x y) (same-sym xs ys)
 
 -- ---- 16, test by test
--- an id, as code reads it
-pub id-at : (s : Sheet) (i : ℕ) → getD (map (λ u. u .id) (s .units)) i 0 ≡ unitOf s i .id
-unfolding unitRow
-id-at s i = List·getD-map (λ u. u .id) (s .units) i (unitRow [])
-
 module _ (b : List ℕ) (s : Sheet) where
   pub other-count : (unitCountIn b ≡ s .unitCount → ⊥) → otherBuilding b s ≡ true
   unfolding otherBuilding

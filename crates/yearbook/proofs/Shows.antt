@@ -12,6 +12,7 @@ use Rattle.sheet.specs.declared.refusal.Outcome.the-variants.{Accepted}
 use Rattle.sheet.specs.Layout.{sheetOf}
 use Rattle.sheet.specs.Check.{checked}
 use Rattle.sheet.proofs.Fits.{fits}
+use Rattle.sheet.proofs.Units.{ids-count}
 use Rattle.month.specs.Month.{Settled, monthOf, settledSheet, statementOf, billCents}
 use Rattle.yearbook.specs.PlainBook.{PlainBook, openedPlain, nowHolds}
 use Rattle.yearbook.specs.LentBook.{bookLength, idsAt, blockLength, unitCountIn, markAt, meterAt, billAt, blockAt, idsIn, padded, putMonth, putSheet, clearMonth, freshBook}
@@ -19,7 +20,7 @@ use Rattle.yearbook.specs.Inner.Sound.{Sound}
 use Rattle.yearbook.proofs.Sums.{orZero, IfHeld}
 use Rattle.yearbook.proofs.Stores.{zero-at, zeros-after}
 use Rattle.yearbook.proofs.Settled.{block-length}
-use Rattle.yearbook.proofs.Writes.{put-length, put-mark, put-meter, put-bill, put-block, put-other, ids-length, fresh-length, fresh-count, fresh-low, fresh-high, fresh-id}
+use Rattle.yearbook.proofs.Writes.{put-length, put-mark, put-meter, put-bill, put-block, put-other, fresh-length, fresh-count, fresh-low, fresh-high, fresh-id}
 
 -- ---- the relation
 -- the month at place i shows what it holds: a sheet or nothing
@@ -160,7 +161,7 @@ shows-fresh sheet e =
       count = fresh-count sheet;
       plain-count = refl;
       ids = λ i l. fresh-id sheet few i;
-      as-many = ids-length sheet;
+      as-many = ids-count sheet;
       twelve = refl;
       months = λ i l. rw (nothing i l) (record {
         mark = fresh-low sheet (markAt i) (omega arith) (omega arith);

@@ -2,13 +2,13 @@
 use mathlib.Core.Path.{_≡_, sym, _∙_}
 use mathlib.Core.Logic.{_≢_, _⊎_, inl, inr}
 use mathlib.Core.List.{List, map}
-use Prim.Native.Nat.{ℕ, _+_, _*_, _-_, _≤_, _<_}
+use Prim.Native.Nat.{ℕ, _+_, _*_, _≤_, _<_}
 use native.Mathlib.Omega.{arith}
 use native.Mathlib.Decide.{decLt}
-use lib.ListN.{length, getD, set, length-set, length-replicate, length-append, length-map, List·getD-eq-default}
+use lib.ListN.{length, getD, set, length-set, length-replicate, length-append, List·getD-eq-default}
 use lib.Seq.{getD-set-same, getD-set-other, length-sets, ext-getD}
 use Rattle.sheet.specs.Layout.{sheetOf}
-use Rattle.sheet.proofs.Units.{units-count}
+use Rattle.sheet.proofs.Units.{ids-count}
 use Rattle.yearbook.specs.LentBook.{bookLength, idsAt, blockLength, unitCountIn, markAt, meterAt, billAt, blockAt, padded, putMonth, zeroBook, freshBook}
 use Rattle.yearbook.proofs.Stores.{getD-sets-below, getD-sets-above, getD-sets-in, zero-at}
 
@@ -69,9 +69,6 @@ module _ (sheet : List ℕ) where
   ids : List ℕ
   ids = map (λ u. u .id) (sheetOf sheet .units)
 
-  pub ids-length : length (map (λ u. u .id) (sheetOf sheet .units)) ≡ sheetOf sheet .unitCount
-  ids-length = length-map (sheetOf sheet .units) (λ u. u .id) ∙ units-count sheet
-
   pub fresh-length : length (freshBook sheet) ≡ bookLength
   unfolding freshBook
   fresh-length = simp (length-sets, length-set) zero-length
@@ -88,11 +85,11 @@ module _ (sheet : List ℕ) where
   -- what stands behind the ids
   pub fresh-high : (x : ℕ) → idsAt + sheetOf sheet .unitCount ≤ x → getD (freshBook sheet) x 0 ≡ 0
   unfolding freshBook ids
-  fresh-high x h = getD-sets-above ids _ idsAt x (omega (arith, ids-length)) ∙ getD-set-other zeroBook 0 x _ 0 (omega arith) ∙ zero-book-at x
+  fresh-high x h = getD-sets-above ids _ idsAt x (omega (arith, ids-count sheet)) ∙ getD-set-other zeroBook 0 x _ 0 (omega arith) ∙ zero-book-at x
 
   pub fresh-id : sheetOf sheet .unitCount ≤ 160 → (i : ℕ) → getD (freshBook sheet) (idsAt + i) 0 ≡ getD (map (λ u. u .id) (sheetOf sheet .units)) i 0
   unfolding freshBook ids
   fresh-id few i = elim (decLt i (sheetOf sheet .unitCount)) [
-    | yes h ↦ getD-sets-in ids (set zeroBook 0 (sheetOf sheet .unitCount)) idsAt i (omega (arith, ids-length)) (rw length-set (omega (arith, ids-length, zero-length)))
-    | no h ↦ fresh-high (idsAt + i) (omega arith) ∙ sym (List·getD-eq-default ids 0 (omega (arith, ids-length)))
+    | yes h ↦ getD-sets-in ids (set zeroBook 0 (sheetOf sheet .unitCount)) idsAt i (omega (arith, ids-count sheet)) (rw length-set (omega (arith, ids-count sheet, zero-length)))
+    | no h ↦ fresh-high (idsAt + i) (omega arith) ∙ sym (List·getD-eq-default ids 0 (omega (arith, ids-count sheet)))
   ]

@@ -36,15 +36,11 @@ infix 15 _prints_
 pub data Case : Type 0 where
   _prints_ : List ℕ → List String → Case
 
-lines : List String → List ℕ
-lines [] = []
-lines (l ∷ ls) = ascii l ++ lines ls
-
 abbrev given : Case → List ℕ
-given (bytes prints ls) = printed bytes
+given (bytes prints lines) = printed bytes
 
 abbrev expected : Case → List ℕ
-expected (bytes prints ls) = lines ls
+expected (bytes prints lines) = joined (map ascii lines)
 
 cases : List Case
 cases =
@@ -66,7 +62,7 @@ cases =
     ∷ []
 
 all-cases : map given cases ≡ map expected cases
-unfolding cases lines unitBytes joined sheetBytes inBytes printed firstLine unitLines refusalLine decimal digitsUpTo
+unfolding cases unitBytes joined sheetBytes inBytes printed firstLine unitLines refusalLine decimal digitsUpTo
     sharesBy all any firstRefusal unitRow rows sheetOf headerTests rowTests rowRules sheetRules
     allMetered meteredSum hasPool totalArea unreadWeight unreadWeights poolWeight readingSum readArea readSurface areaWeight surfaceWeight readWeight readWeights unitsOfClass litresOfClass1 personsOfClass2 waterWeight
     splitBy inUnitOrder unitByUnit hotWater spaceHeat heatParts poolShares readShares heat commonHeat waterParts water commonWater energies

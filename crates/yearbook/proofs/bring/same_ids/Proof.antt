@@ -9,8 +9,8 @@ use lib.Seq.{getD-take, getD-drop, ext-getD}
 use Rattle.sheet.specs.Layout.{sheetOf}
 use Rattle.yearbook.specs.LentBook.{bookLength, idsAt}
 use Rattle.yearbook.specs.Inner.Rows.{HoldsRows}
-use Rattle.yearbook.proofs.Writes.{ids-length}
-use Rattle.yearbook.proofs.Building.{id-at, differ-at, same-lists}
+use Rattle.sheet.proofs.Units.{ids-count, id-at}
+use Rattle.yearbook.proofs.Building.{differ-at, same-lists}
 use Rattle.yearbook.proofs.bring.same_ids.Statement.{statement}
 use Rattle.yearbook.proofs.bring.same_ids.Tie as tie
 
@@ -40,7 +40,7 @@ returns c =
     let inv = c .before .before .before .before .loop .inv in let i = c .before .before .before .before .loop .i in
     let a = c .before .before .before .before .before .before .before .args in
     let b = a .book .now in let s = sheetOf (a .sheet .now) in
-    sym (differ-at (take (a .n) (drop idsAt b)) (map (λ u. u .id) (s .units)) i (simp (length-take, length-drop) (omega arith)) (omega (arith, ids-length (a .sheet .now)))
+    sym (differ-at (take (a .n) (drop idsAt b)) (map (λ u. u .id) (s .units)) i (simp (length-take, length-drop) (omega arith)) (omega (arith, ids-count (a .sheet .now)))
     (λ e. c .if1 .taken (sym (getD-take (a .n) (drop idsAt b) i 0 (omega arith) ∙ getD-drop idsAt b i 0) ∙ e ∙ id-at s i ∙ sym (c .before .unit-field .ensures))))
 
 add-i : tie.Need-add-i Inv-loop μ-loop
@@ -69,7 +69,7 @@ returns-2 c =
     let a = c .before .before .before .before .args in
     let b = a .book .now in let ids = map (λ u. u .id) (sheetOf (a .sheet .now) .units) in
     let size : length (take (a .n) (drop idsAt b)) ≡ a .n = simp (length-take, length-drop) (omega arith) in
-    sym (same-lists (take (a .n) (drop idsAt b)) ids (ext-getD 0 (take (a .n) (drop idsAt b)) ids (omega (arith, ids-length (a .sheet .now)))
+    sym (same-lists (take (a .n) (drop idsAt b)) ids (ext-getD 0 (take (a .n) (drop idsAt b)) ids (omega (arith, ids-count (a .sheet .now)))
     (λ k h. let l : k < a .n = omega arith in getD-take (a .n) (drop idsAt b) k 0 l ∙ getD-drop idsAt b k 0 ∙ inv .3 k (omega arith))))
 
 pub same-ids-spec : {M : Type 1} → statement M

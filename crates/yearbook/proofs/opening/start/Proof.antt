@@ -9,8 +9,8 @@ use Rattle.sheet.specs.Layout.{sheetOf}
 use Rattle.yearbook.specs.LentBook.{bookLength, idsAt, freshBook}
 use Rattle.yearbook.specs.Inner.Rows.{HoldsRows}
 use Rattle.yearbook.proofs.Stores.{store-next}
-use Rattle.yearbook.proofs.Writes.{ids-length, zero-length}
-use Rattle.yearbook.proofs.Building.{id-at}
+use Rattle.sheet.proofs.Units.{ids-count, id-at}
+use Rattle.yearbook.proofs.Writes.{zero-length}
 use Rattle.yearbook.proofs.opening.start.Statement.{statement}
 use Rattle.yearbook.proofs.opening.start.Tie as tie
 
@@ -56,7 +56,7 @@ loop-again : tie.Need-loop-again Inv-loop μ-loop
 loop-again c =
     let inv = c .before .before .loop .inv in let i = c .before .before .loop .i in
     let sheet = c .before .before .before .before .before .before .before .before .before .args .sheet .now in
-    (omega arith, rw (inv .1, c .unit-field .ensures, ← id-at (sheetOf sheet) i) (store-next (map (λ u. u .id) (sheetOf sheet .units)) _ idsAt i (omega (arith, ids-length sheet))), inv .2, inv .3)
+    (omega arith, rw (inv .1, c .unit-field .ensures, ← id-at (sheetOf sheet) i) (store-next (map (λ u. u .id) (sheetOf sheet .units)) _ idsAt i (omega (arith, ids-count sheet))), inv .2, inv .3)
 
 same-length : tie.Need-same-length Inv-loop μ-loop
 same-length c = rw (c .before .loop .inv .1, length-sets, c .before .loop .inv .2) (omega arith)
@@ -67,7 +67,7 @@ returns c =
     let inv = c .before .loop .inv in
     let a = c .before .before .before .before .before .before .before .before .args in
     let ids = map (λ u. u .id) (sheetOf (a .sheet .now) .units) in
-    let whole : take (c .before .loop .i) ids ≡ ids = take-all (c .before .loop .i) ids (omega (arith, ids-length (a .sheet .now))) in
+    let whole : take (c .before .loop .i) ids ≡ ids = take-all (c .before .loop .i) ids (omega (arith, ids-count (a .sheet .now))) in
     rw (inv .1, whole, c .before .before .before .before .clear .ensures, inv .3 .count)
 
 pub start-spec : {M : Type 1} → statement M
