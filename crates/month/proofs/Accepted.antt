@@ -1,7 +1,7 @@
 -- A sheet that no refusal meets has what specs/Accepted.antt lists, and its divisions have weights. Assumes nothing.
 use mathlib.Core.Path.{_≡_, refl}
 use mathlib.Core.Bool.{Bool, true, false, _&&_}
-use mathlib.Core.Logic.{inl, inr}
+use mathlib.Core.Logic.{_⊎_, inl, inr}
 use mathlib.Core.List.{List, [], _∷_, _++_, map}
 use Prim.Native.Nat.{ℕ, _+_, _*_, _-_, _≤_, _<_}
 use native.Mathlib.Omega.{arith}
@@ -14,6 +14,8 @@ use Rattle.apportion.specs.Shares.{sum}
 use Rattle.sheet.specs.declared.refusal.Outcome.the-variants.{Accepted}
 use Rattle.sheet.specs.Tests.{if_then_else_, Each}
 use Rattle.sheet.specs.Refusals.{firstRefusal}
+use Rattle.sheet.specs.declared.rule_set.RuleSet.{RuleSet}
+use Rattle.sheet.specs.RuleSets.{limitsRisers}
 use Rattle.sheet.specs.Layout.{UnitRow, Sheet, sheetOf}
 use Rattle.sheet.specs.Check.{sheetRules, checked}
 use Rattle.sheet.specs.Inner.Fits.{UnitFits, Fits}
@@ -67,6 +69,12 @@ sum-those test f (u ∷ us) = elim (decided (test u)) [ inl e ↦ rw e (omega (a
 grows : (x k : ℕ) → 1 ≤ k → x ≤ x * k
 grows x k h = omega (arith, mul-le-mul-left x h)
 
+-- where r is limited, it is at least its base
+limit-reaches : (limits : Bool) (x base r : ℕ) → x ≤ base → (limits ≡ true) ⊎ (x ≤ r) → x ≤ (if limits && ltb 0 x then limited base r else r)
+limit-reaches true x base r h k = elim (decLt 0 x) [ yes p ↦ rw (lt-ltb 0 x p) (omega arith) | no p ↦ omega arith ]
+limit-reaches false x base r h (inr k) = k
+limit-reaches false x base r h (inl e) = absurd (let z : _≡_ {A = ℕ} 0 1 = cc in omega arith)
+
 module _ (s : Sheet) where
   -- a sum that reaches another, unit by unit
   sum-mono : (f g : UnitRow → ℕ) → ((u : UnitRow) → UnitFits s u → f u ≤ g u) → (us : List UnitRow) → Each (UnitFits s) us → sumOf f us ≤ sumOf g us
@@ -110,43 +118,55 @@ module _ (s : Sheet) (a : AcceptedSheet s) where
       let r = limited base ((100 - s .basePercent) * u .reading * readArea s + s .basePercent * u .heatedArea * readingSum s) in
       omega (arith, grows (u .heatedArea) (readingSum s) b, grows r (u .locationFactor) (z .locationFactorLow))
 
-  surface-le : 0 < readingSum s → 0 < s .basePercent → (u : UnitRow) → UnitFits s u → u .riserSurface ≤ surfaceWeight s u
-  unfolding surfaceWeight
-  surface-le b v u z =
-      let x = s .basePercent * u .riserSurface in
-      let r = (100 - s .basePercent) * u .reading * readSurface s + x * readingSum s in
-      omega (arith, mul-le-mul-right (u .riserSurface) v, grows x (readingSum s) b, grows r (u .locationFactor) (z .locationFactorLow))
+  module _ (rules : RuleSet) where
+    surface-le : 0 < readingSum s → (limitsRisers rules ≡ true) ⊎ (0 < s .basePercent) → (u : UnitRow) → UnitFits s u → u .riserSurface ≤ surfaceWeight rules s u
+    unfolding surfaceWeight
+    surface-le b h u z =
+        let x = s .basePercent * u .riserSurface in
+        let r = (100 - s .basePercent) * u .reading * readSurface s + x * readingSum s in
+        let base = u .riserSurface * readingSum s in
+        let reaches : (limitsRisers rules ≡ true) ⊎ (u .riserSurface ≤ r) = elim h [ inl l ↦ inl l | inr v ↦ inr (omega (arith, mul-le-mul-right (u .riserSurface) v, grows x (readingSum s) b)) ] in
+        omega (
+          arith,
+          limit-reaches (limitsRisers rules) (u .riserSurface) base r (grows (u .riserSurface) (readingSum s) b) reaches,
+          grows (if limitsRisers rules && ltb 0 (u .riserSurface) then limited base r else r) (u .locationFactor) (z .locationFactorLow),
+        )
 
-  reading-le : 0 < readSurface s → s .basePercent ≡ 0 → (u : UnitRow) → UnitFits s u → u .reading ≤ surfaceWeight s u
-  unfolding surfaceWeight
-  reading-le b v u z =
-      let x = (100 - s .basePercent) * u .reading in
-      let r = x * readSurface s + s .basePercent * u .riserSurface * readingSum s in
-      let h : 1 ≤ 100 - s .basePercent = omega arith in
-      omega (arith, mul-le-mul-right (u .reading) h, grows x (readSurface s) b, grows r (u .locationFactor) (z .locationFactorLow))
+    reading-le : limitsRisers rules ≡ false → 0 < readSurface s → s .basePercent ≡ 0 → (u : UnitRow) → UnitFits s u → u .reading ≤ surfaceWeight rules s u
+    unfolding surfaceWeight
+    reading-le l b v u z =
+        let x = (100 - s .basePercent) * u .reading in
+        let r = x * readSurface s + s .basePercent * u .riserSurface * readingSum s in
+        let h : 1 ≤ 100 - s .basePercent = omega arith in
+        rw l (omega (arith, mul-le-mul-right (u .reading) h, grows x (readSurface s) b, grows r (u .locationFactor) (z .locationFactorLow)))
 
-  pub read-positive : 3 ≤ s .model → 0 < sum (readWeights s)
-  unfolding readWeights readWeight readSurface readingSum
-  read-positive m = go (eqb (readingSum s) 0) refl (eqb (s .model) 3) refl (eqb (s .model) 4) refl
-    where
-      at-least : (f : UnitRow → ℕ) → ((u : UnitRow) → UnitFits s u → f u ≤ readWeight s u) → 0 < sumOf f (readUnits s) → 0 < sum (map (readWeight s) (readUnits s))
-      at-least f le h = omega (arith, sum-mono s f (readWeight s) le (readUnits s) read-fit)
+    pub read-positive : 3 ≤ s .model → 0 < sum (readWeights rules s)
+    unfolding readWeights readWeight readSurface readingSum
+    read-positive m = go (eqb (readingSum s) 0) refl (eqb (s .model) 3) refl (eqb (s .model) 4) refl
+      where
+        at-least : (f : UnitRow → ℕ) → ((u : UnitRow) → UnitFits s u → f u ≤ readWeight rules s u) → 0 < sumOf f (readUnits s) → 0 < sum (map (readWeight rules s) (readUnits s))
+        at-least f le h = omega (arith, sum-mono s f (readWeight rules s) le (readUnits s) read-fit)
 
-      some : eqb (readingSum s) 0 ≡ false → 0 < readingSum s
-      some e = omega (arith, eqb-false (readingSum s) 0 e)
+        some : eqb (readingSum s) 0 ≡ false → 0 < readingSum s
+        some e = omega (arith, eqb-false (readingSum s) 0 e)
 
-      go : (none : Bool) → eqb (readingSum s) 0 ≡ none → (three : Bool) → eqb (s .model) 3 ≡ three → (four : Bool) → eqb (s .model) 4 ≡ four
-          → 0 < sum (map (readWeight s) (readUnits s))
-      go true e three p true q = at-least (λ u. u .riserSurface) (λ u z. rw (e, q) (grows (u .riserSurface) (u .locationFactor) (z .locationFactorLow))) (surface-positive (eqb-true (s .model) 4 q))
-      go true e three p false q = at-least (λ u. u .heatedArea) (λ u z. rw (e, q) (grows (u .heatedArea) (u .locationFactor) (z .locationFactorLow))) (read-area m)
-      go false e true p four q = at-least (λ u. u .heatedArea) (λ u z. rw (e, p) (area-le (some e) u z)) (read-area m)
-      go false e false p true q =
-          let s-positive = surface-positive (eqb-true (s .model) 4 q) in
-          elim (decLt 0 (s .basePercent)) [
-            | yes v ↦ at-least (λ u. u .riserSurface) (λ u z. rw (e, p, q) (surface-le (some e) v u z)) s-positive
-            | no v ↦ at-least (λ u. u .reading) (λ u z. rw (e, p, q) (reading-le s-positive (omega arith) u z)) (some e)
-          ]
-      go false e false p false q = at-least (λ u. u .reading) (λ u z. rw (e, p, q) (omega arith)) (some e)
+        go : (none : Bool) → eqb (readingSum s) 0 ≡ none → (three : Bool) → eqb (s .model) 3 ≡ three → (four : Bool) → eqb (s .model) 4 ≡ four
+            → 0 < sum (map (readWeight rules s) (readUnits s))
+        go true e three p true q = at-least (λ u. u .riserSurface) (λ u z. rw (e, q) (grows (u .riserSurface) (u .locationFactor) (z .locationFactorLow))) (surface-positive (eqb-true (s .model) 4 q))
+        go true e three p false q = at-least (λ u. u .heatedArea) (λ u z. rw (e, q) (grows (u .heatedArea) (u .locationFactor) (z .locationFactorLow))) (read-area m)
+        go false e true p four q = at-least (λ u. u .heatedArea) (λ u z. rw (e, p) (area-le (some e) u z)) (read-area m)
+        go false e false p true q =
+            let s-positive = surface-positive (eqb-true (s .model) 4 q) in
+            let by-surface : (limitsRisers rules ≡ true) ⊎ (0 < s .basePercent) → 0 < sum (map (readWeight rules s) (readUnits s)) =
+            λ h. at-least (λ u. u .riserSurface) (λ u z. rw (e, p, q) (surface-le (some e) h u z)) s-positive in
+            elim (decided (limitsRisers rules)) [
+              | inl l ↦ by-surface (inl l)
+              | inr l ↦ elim (decLt 0 (s .basePercent)) [
+                | yes v ↦ by-surface (inr v)
+                | no v ↦ at-least (λ u. u .reading) (λ u z. rw (e, p, q) (reading-le l s-positive (omega arith) u z)) (some e)
+              ]
+            ]
+        go false e false p false q = at-least (λ u. u .reading) (λ u z. rw (e, p, q) (omega arith)) (some e)
 
   -- ---- step 6
   module _ (w : 0 < hotWaterWh s) where

@@ -1,18 +1,20 @@
 -- The bounds of specs/Inner/Bounds.antt, for a sheet that passes 1 to 7. Assumes nothing.
 use mathlib.Core.Path.{_≡_}
-use mathlib.Core.Bool.{Bool, not, _||_}
+use mathlib.Core.Bool.{Bool, true, false, not, _&&_, _||_}
 use mathlib.Core.Logic.{inl, inr}
 use mathlib.Core.List.{List, [], _∷_}
 use Prim.Native.Nat.{ℕ, zero, suc, _+_, _*_, _-_, _≤_, _<_}
 use native.Mathlib.Omega.{arith}
 use native.Mathlib.Nat.{mul-le-mul}
 use borrow.Author.Tests.{eqb-true}
-use lib.Dec.{eqb}
+use lib.Dec.{ltb, eqb}
 use lib.ListN.{length, getD}
 use Rattle.apportion.specs.Shares.{sum}
+use Rattle.sheet.specs.declared.rule_set.RuleSet.{RuleSet}
+use Rattle.sheet.specs.RuleSets.{limitsRisers}
 use Rattle.sheet.specs.Layout.{UnitRow, Sheet}
 use Rattle.sheet.specs.Inner.Fits.{UnitFits}
-use Rattle.sheet.specs.Tests.{Each}
+use Rattle.sheet.specs.Tests.{if_then_else_, Each}
 use Rattle.month.specs.Weights.{those, sumOf, isRead, meteredSum, totalArea, unreadWeight, unreadWeights, poolWeight, readingSum, readArea, readSurface, limited, areaWeight, surfaceWeight, readWeight, readWeights, unitsOfClass, litresOfClass1, personsOfClass2, waterWeight, commonWaterWeight}
 use Rattle.month.specs.Month.{billCents}
 use Rattle.month.specs.Inner.Accepted.{CheckedSheet}
@@ -39,6 +41,11 @@ sum-of-readings (suc n) b (x ∷ xs) e h = omega (arith, h 0 (omega arith), sum-
 
 pub three-le : {a b c x y z : ℕ} → a ≤ x → b ≤ y → c ≤ z → a * b * c ≤ x * y * z
 three-le h g f = mul-le-mul (mul-le-mul h g) f
+
+-- r, limited or not
+limit-le : (limits : Bool) (base r : ℕ) → base ≤ 80000000000 → r ≤ 24000000000000 → (if limits then limited base r else r) ≤ 24000000000000
+limit-le true base r h g = omega arith
+limit-le false base r h g = g
 
 module _ (s : Sheet) (c : CheckedSheet s) where
   few : length (s .units) ≤ 160
@@ -85,8 +92,8 @@ module _ (s : Sheet) (c : CheckedSheet s) where
       | inr e ↦ rw e (omega (arith, h .heatedArea))
     ]
 
-    base-le : s .model ≤ 4 → u .heatedArea * readingSum s ≤ 80000000000
-    base-le m = mul-le-mul (h .heatedArea) (sum-bounds .impulses m)
+    base-le : s .model ≤ 4 → {x : ℕ} → x ≤ 10000 → x * readingSum s ≤ 80000000000
+    base-le m le = mul-le-mul le (sum-bounds .impulses m)
 
     rest-percent : 100 - s .basePercent ≤ 100
     rest-percent = omega arith
@@ -94,7 +101,7 @@ module _ (s : Sheet) (c : CheckedSheet s) where
     area-weight-le : s .model ≤ 4 → areaWeight s u ≤ 24000000000000000
     unfolding areaWeight
     area-weight-le m =
-        let r : limited (u .heatedArea * readingSum s) ((100 - s .basePercent) * u .reading * readArea s + s .basePercent * u .heatedArea * readingSum s) ≤ 24000000000000 = omega (arith, base-le m) in
+        let r : limited (u .heatedArea * readingSum s) ((100 - s .basePercent) * u .reading * readArea s + s .basePercent * u .heatedArea * readingSum s) ≤ 24000000000000 = omega (arith, base-le m (h .heatedArea)) in
         mul-le-mul r (h .locationFactor)
 
     reading-by-surface : s .model ≤ 4 → (100 - s .basePercent) * u .reading * readSurface s ≤ 8000000000000
@@ -103,15 +110,17 @@ module _ (s : Sheet) (c : CheckedSheet s) where
     surface-by-readings : s .model ≤ 4 → s .basePercent * u .riserSurface * readingSum s ≤ 4800000000000
     surface-by-readings m = three-le (c .header .basePercentHigh) (h .riserSurface) (sum-bounds .impulses m)
 
-    surface-weight-le : s .model ≤ 4 → surfaceWeight s u ≤ 12800000000000000
+    surface-weight-le : (rules : RuleSet) → s .model ≤ 4 → surfaceWeight rules s u ≤ 24000000000000000
     unfolding surfaceWeight
-    surface-weight-le m =
-        let r : (100 - s .basePercent) * u .reading * readSurface s + s .basePercent * u .riserSurface * readingSum s ≤ 12800000000000 = omega (arith, reading-by-surface m, surface-by-readings m) in
-        mul-le-mul r (h .locationFactor)
+    surface-weight-le rules m =
+        let r = (100 - s .basePercent) * u .reading * readSurface s + s .basePercent * u .riserSurface * readingSum s in
+        let le : r ≤ 12800000000000 = omega (arith, reading-by-surface m, surface-by-readings m) in
+        let base = u .riserSurface * readingSum s in
+        mul-le-mul (limit-le (limitsRisers rules && ltb 0 (u .riserSurface)) base r (base-le m (h .riserSurface)) (omega arith)) (h .locationFactor)
 
-    read-le : readWeight s u ≤ 24000000000000000
+    read-le : (rules : RuleSet) → readWeight rules s u ≤ 24000000000000000
     unfolding readWeight
-    read-le = elim (decided (eqb (readingSum s) 0)) [
+    read-le rules = elim (decided (eqb (readingSum s) 0)) [
       | inl e ↦ elim (decided (eqb (s .model) 4)) [
         | inl q ↦ rw (e, q) (omega (arith, mul-le-mul (h .riserSurface) (h .locationFactor)))
         | inr q ↦ rw (e, q) (omega (arith, mul-le-mul (h .heatedArea) (h .locationFactor)))
@@ -119,7 +128,7 @@ module _ (s : Sheet) (c : CheckedSheet s) where
       | inr e ↦ elim (decided (eqb (s .model) 3)) [
         | inl p ↦ rw (e, p) (area-weight-le (omega (arith, eqb-true (s .model) 3 p)))
         | inr p ↦ elim (decided (eqb (s .model) 4)) [
-          | inl q ↦ rw (e, p, q) (omega (arith, surface-weight-le (omega (arith, eqb-true (s .model) 4 q))))
+          | inl q ↦ rw (e, p, q) (surface-weight-le rules (omega (arith, eqb-true (s .model) 4 q)))
           | inr q ↦ rw (e, p, q) (omega (arith, h .reading))
         ]
       ]
@@ -141,13 +150,13 @@ module _ (s : Sheet) (c : CheckedSheet s) where
       ]
     ]
 
-  pub weight-bounds : WeightBounds s
+  pub weight-bounds : (rules : RuleSet) → WeightBounds rules s
   unfolding unreadWeights readWeights poolWeight
-  weight-bounds =
+  weight-bounds rules =
       let unread : sum (unreadWeights s) ≤ 56000000000 = over-those (λ u. not (isRead u)) (unreadWeight s) 350000000 unread-le in
       record {
         unread = unread;
         pool = omega (arith, unread, sum-append (unreadWeights s) (poolWeight s ∷ []), sum-bounds .total-area);
-        read = over-those isRead (readWeight s) 24000000000000000 read-le;
+        read = over-those isRead (readWeight rules s) 24000000000000000 (λ u h. read-le u h rules);
         water = over-all (waterWeight s) 1280000000000 water-le;
       }

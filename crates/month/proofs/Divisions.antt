@@ -12,13 +12,14 @@ use lib.ListN.{length, getD, drop}
 use Rattle.apportion.specs.Shares.{shares}
 use Rattle.apportion.specs.Fair.{Fair}
 use Rattle.apportion.proofs.Laws.{shares-fair}
+use Rattle.sheet.specs.declared.rule_set.RuleSet.{RuleSet}
 use Rattle.sheet.specs.Layout.{UnitRow, Sheet}
 use Rattle.sheet.specs.Tests.{Each}
 use Rattle.month.specs.Weights.{unreadUnits, allMetered, unreadWeights, poolWeight, readWeights, waterWeight, commonWaterWeight}
 use Rattle.month.specs.Steps.{dividingBy, wholeWh, splitBy, inUnitOrder, unitByUnit, hotWater, spaceHeat, heatParts, poolShares, readShares, heat, commonHeat, waterParts, water, commonWater, energies}
 use Rattle.month.specs.Month.{hotWaterWh, spaceHeatWh, billCents, costs}
 use Rattle.month.specs.Inner.Accepted.{AcceptedSheet}
-use Rattle.month.specs.Laws.{_by_, unitsHeatDivisions, heatDivisions, divisions, Divisible, DoesAsShares, NoOtherDivisions}
+use Rattle.month.specs.Laws.{_by_, unitsHeatDivisions, heatDivisions, divisions, Divisible, Method, DoesAsShares, NoOtherDivisions}
 use Rattle.month.proofs.Lists.{decided, sum-two, each-append, each-parts}
 use Rattle.month.proofs.Accepted.{load-positive, area-positive, pool-positive, read-positive, water-positive, common-water-positive}
 
@@ -39,7 +40,7 @@ way s = go (allMetered s) refl (eqb (s .model) 1) refl (eqb (s .model) 2) refl
     go false e false f false g = by-pool e f g
 
 -- ---- (100 − percent, percent)
-module _ (percent t : ℕ) where
+module _ (rules : RuleSet) (percent t : ℕ) where
   abbrev pub pair : List ℕ
   pair = (100 - percent) ∷ percent ∷ []
 
@@ -49,95 +50,95 @@ module _ (percent t : ℕ) where
   pub split-fair : Fair t pair (shares t pair)
   split-fair = shares-fair t pair split-divisible
 
-  pub split-sum : splitBy wholeWh percent t .ofUnits + splitBy wholeWh percent t .common ≡ t
+  pub split-sum : splitBy wholeWh rules percent t .ofUnits + splitBy wholeWh rules percent t .common ≡ t
   unfolding splitBy
   split-sum = omega (arith, sum-two (shares t pair) (split-fair .as-many), split-fair .adds-up)
 
-  pub split-none : percent ≡ 0 → splitBy wholeWh percent t .common ≡ 0
+  pub split-none : percent ≡ 0 → splitBy wholeWh rules percent t .common ≡ 0
   unfolding splitBy
   split-none e = split-fair .none-for-none 1 e
 
-abbrev pub units-heat : Sheet → ℕ
-units-heat s = heatParts wholeWh s .ofUnits
+abbrev pub units-heat : RuleSet → Sheet → ℕ
+units-heat rules s = heatParts wholeWh rules s .ofUnits
 
-abbrev pub common-heat : Sheet → ℕ
-common-heat s = heatParts wholeWh s .common
+abbrev pub common-heat : RuleSet → Sheet → ℕ
+common-heat rules s = heatParts wholeWh rules s .common
 
 -- the pool's share
-abbrev pub pool : Sheet → ℕ
-pool s = getD (poolShares wholeWh s) (length (unreadUnits s)) 0
+abbrev pub pool : RuleSet → Sheet → ℕ
+pool rules s = getD (poolShares wholeWh rules s) (length (unreadUnits s)) 0
 
 -- ---- each division but the bill's
 positive : {t w : ℕ} → 0 < w → w ≡ 0 → t ≡ 0
 positive h e = absurd (omega arith)
 
-module _ (s : Sheet) (a : AcceptedSheet s) where
-  -- models 3 to 5
-  pub above-two : eqb (s .model) 1 ≡ false → eqb (s .model) 2 ≡ false → 3 ≤ s .model
-  above-two p q = omega (arith, eqb-false (s .model) 1 p, eqb-false (s .model) 2 q, a .checked-sheet .header .modelLow)
+-- models 3 to 5
+pub above-two : (s : Sheet) → AcceptedSheet s → eqb (s .model) 1 ≡ false → eqb (s .model) 2 ≡ false → 3 ≤ s .model
+above-two s a p q = omega (arith, eqb-false (s .model) 1 p, eqb-false (s .model) 2 q, a .checked-sheet .header .modelLow)
 
-  pub load-fair : eqb (s .model) 1 ≡ true → Fair (units-heat s) (map (λ u. u .heatLoad) (s .units)) (shares (units-heat s) (map (λ u. u .heatLoad) (s .units)))
-  load-fair e = shares-fair (units-heat s) (map (λ u. u .heatLoad) (s .units)) (positive (load-positive s a (eqb-true (s .model) 1 e)))
+module _ (rules : RuleSet) (s : Sheet) (a : AcceptedSheet s) where
+  pub load-fair : eqb (s .model) 1 ≡ true → Fair (units-heat rules s) (map (λ u. u .heatLoad) (s .units)) (shares (units-heat rules s) (map (λ u. u .heatLoad) (s .units)))
+  load-fair e = shares-fair (units-heat rules s) (map (λ u. u .heatLoad) (s .units)) (positive (load-positive s a (eqb-true (s .model) 1 e)))
 
   pub area-fair : (t : ℕ) → Fair t (map (λ u. u .heatedArea) (s .units)) (shares t (map (λ u. u .heatedArea) (s .units)))
   area-fair t = shares-fair t (map (λ u. u .heatedArea) (s .units)) (positive (area-positive s a))
 
-  pub pool-fair : Fair (units-heat s) (unreadWeights s ++ poolWeight s ∷ []) (poolShares wholeWh s)
+  pub pool-fair : Fair (units-heat rules s) (unreadWeights s ++ poolWeight s ∷ []) (poolShares wholeWh rules s)
   unfolding poolShares
-  pool-fair = shares-fair (units-heat s) (unreadWeights s ++ poolWeight s ∷ []) (positive (pool-positive s a))
+  pool-fair = shares-fair (units-heat rules s) (unreadWeights s ++ poolWeight s ∷ []) (positive (pool-positive s a))
 
-  pub read-fair : 3 ≤ s .model → Fair (pool s) (readWeights s) (readShares wholeWh s)
+  pub read-fair : 3 ≤ s .model → Fair (pool rules s) (readWeights rules s) (readShares wholeWh rules s)
   unfolding readShares
-  read-fair m = shares-fair (pool s) (readWeights s) (positive (read-positive s a m))
+  read-fair m = shares-fair (pool rules s) (readWeights rules s) (positive (read-positive s a rules m))
 
-  pub water-divisible : Divisible (waterParts wholeWh s .ofUnits by map (waterWeight s) (s .units))
+  pub water-divisible : Divisible (waterParts wholeWh rules s .ofUnits by map (waterWeight s) (s .units))
   unfolding waterParts hotWaterWh
   water-divisible e =
       elim (decLt 0 (hotWaterWh s)) [
         | yes w ↦ absurd (omega (arith, water-positive s a w))
-        | no w ↦ omega (arith, split-sum (s .commonWaterPercent) (hotWater wholeWh s))
+        | no w ↦ omega (arith, split-sum rules (s .commonWaterPercent) (hotWater wholeWh s))
       ]
 
-  pub common-water-divisible : Divisible (waterParts wholeWh s .common by map commonWaterWeight (s .units))
+  pub common-water-divisible : Divisible (waterParts wholeWh rules s .common by map commonWaterWeight (s .units))
   unfolding waterParts hotWaterWh
   common-water-divisible e =
       elim (decLt 0 (hotWaterWh s)) [
         | yes w ↦
             elim (decLt 0 (s .commonWaterPercent)) [
               | yes y ↦ absurd (omega (arith, common-water-positive s a w y))
-              | no y ↦ split-none (s .commonWaterPercent) (hotWater wholeWh s) (omega arith)
+              | no y ↦ split-none rules (s .commonWaterPercent) (hotWater wholeWh s) (omega arith)
             ]
-        | no w ↦ omega (arith, split-sum (s .commonWaterPercent) (hotWater wholeWh s))
+        | no w ↦ omega (arith, split-sum rules (s .commonWaterPercent) (hotWater wholeWh s))
       ]
 
-  pub water-fair : Fair (waterParts wholeWh s .ofUnits) (map (waterWeight s) (s .units)) (water wholeWh s)
+  pub water-fair : Fair (waterParts wholeWh rules s .ofUnits) (map (waterWeight s) (s .units)) (water wholeWh rules s)
   unfolding water
-  water-fair = shares-fair (waterParts wholeWh s .ofUnits) (map (waterWeight s) (s .units)) water-divisible
+  water-fair = shares-fair (waterParts wholeWh rules s .ofUnits) (map (waterWeight s) (s .units)) water-divisible
 
-  pub common-water-fair : Fair (waterParts wholeWh s .common) (map commonWaterWeight (s .units)) (commonWater wholeWh s)
+  pub common-water-fair : Fair (waterParts wholeWh rules s .common) (map commonWaterWeight (s .units)) (commonWater wholeWh rules s)
   unfolding commonWater
-  common-water-fair = shares-fair (waterParts wholeWh s .common) (map commonWaterWeight (s .units)) common-water-divisible
+  common-water-fair = shares-fair (waterParts wholeWh rules s .common) (map commonWaterWeight (s .units)) common-water-divisible
 
-  heat-divisible : Each Divisible (heatDivisions s)
+  heat-divisible : Each Divisible (heatDivisions rules s)
   unfolding heatDivisions unitsHeatDivisions
   heat-divisible =
-      let split = split-divisible (s .commonHeatPercent) (spaceHeatWh s) in
+      let split = split-divisible rules (s .commonHeatPercent) (spaceHeatWh s) in
       elim (way s) [
         | by-meters e ↦ rw e tt
         | by-load e f ↦ rw (e, f) (split, (positive (load-positive s a (eqb-true (s .model) 1 f)), tt))
         | by-area e f g ↦ rw (e, f, g) (split, (positive (area-positive s a), tt))
-        | by-pool e f g ↦ rw (e, f, g) (split, (positive (pool-positive s a), (positive (read-positive s a (above-two f g)), tt)))
+        | by-pool e f g ↦ rw (e, f, g) (split, (positive (pool-positive s a), (positive (read-positive s a rules (above-two s a f g)), tt)))
       ]
 
   -- NO DIVISION MEETS W = 0 WITH T > 0
-  pub all-divisible : Divisible (billCents s by energies wholeWh s) → Each Divisible (divisions s)
+  pub all-divisible : Divisible (billCents s by energies wholeWh rules s) → Each Divisible (divisions rules s)
   unfolding divisions
   all-divisible bill =
-      each-append Divisible (heatDivisions s) _ heat-divisible
-      (positive (area-positive s a), (split-divisible (s .commonWaterPercent) (hotWaterWh s), (water-divisible, (common-water-divisible, (bill, tt)))))
+      each-append Divisible (heatDivisions rules s) _ heat-divisible
+      (positive (area-positive s a), (split-divisible rules (s .commonWaterPercent) (hotWaterWh s), (water-divisible, (common-water-divisible, (bill, tt)))))
 
 -- ---- no others
-module _ (divide : ℕ → List ℕ → List ℕ) where
+module _ (divide : Method) where
   same-order : (us : List UnitRow) (a b : List ℕ) → inUnitOrder (dividingBy divide) us a b ≡ inUnitOrder wholeWh us a b
   unfolding inUnitOrder
   same-order [] a b = refl
@@ -148,34 +149,34 @@ module _ (divide : ℕ → List ℕ → List ℕ) where
   same-by-unit zero a b c d = refl
   same-by-unit (suc n) a b c d = rw (same-by-unit n (drop 1 a) (drop 1 b) (drop 1 c) (drop 1 d))
 
-  module _ (s : Sheet) (h : Each (DoesAsShares divide) (heatDivisions s)) where
-    same-heat-parts : (heatParts (dividingBy divide) s .ofUnits ≡ heatParts wholeWh s .ofUnits) × (heatParts (dividingBy divide) s .common ≡ heatParts wholeWh s .common)
+  module _ (rules : RuleSet) (s : Sheet) (h : Each (DoesAsShares rules divide) (heatDivisions rules s)) where
+    same-heat-parts : (heatParts (dividingBy divide) rules s .ofUnits ≡ heatParts wholeWh rules s .ofUnits) × (heatParts (dividingBy divide) rules s .common ≡ heatParts wholeWh rules s .common)
     unfolding heatParts splitBy spaceHeat hotWater heatDivisions unitsHeatDivisions spaceHeatWh
     same-heat-parts = elim (decided (allMetered s)) [
       | inl e ↦ rw e (refl, refl)
       | inr e ↦ let k = rw e at h in rw (e, k .0) (refl, refl)
     ]
 
-    same-heat : heat (dividingBy divide) s ≡ heat wholeWh s
+    same-heat : heat (dividingBy divide) rules s ≡ heat wholeWh rules s
     unfolding heat poolShares readShares heatDivisions unitsHeatDivisions
     same-heat = elim (way s) [
       | by-meters e ↦ rw e
       | by-load e f ↦ let k = rw (e, f) at h in rw (e, f, same-heat-parts .0, k .1 .0)
       | by-area e f g ↦ let k = rw (e, f, g) at h in rw (e, f, g, same-heat-parts .0, k .1 .0)
-      | by-pool e f g ↦ let k = rw (e, f, g) at h in rw (e, f, g, same-heat-parts .0, k .1 .0, k .1 .1 .0) (same-order (s .units) (poolShares wholeWh s) (readShares wholeWh s))
+      | by-pool e f g ↦ let k = rw (e, f, g) at h in rw (e, f, g, same-heat-parts .0, k .1 .0, k .1 .1 .0) (same-order (s .units) (poolShares wholeWh rules s) (readShares wholeWh rules s))
     ]
 
 pub no-other-divisions : NoOtherDivisions
 unfolding divisions energies commonHeat waterParts splitBy water commonWater hotWater hotWaterWh costs
-no-other-divisions s divide h =
-    let p = each-parts (DoesAsShares divide) (heatDivisions s) _ h in
+no-other-divisions rules s divide h =
+    let p = each-parts (DoesAsShares rules divide) (heatDivisions rules s) _ h in
     let more = p .1 in
     let split = more .1 .0 in
     let n = length (s .units) in
     let e = dividingBy divide in
-    let a = same-heat divide s (p .0) in
-    let b : commonHeat e s ≡ commonHeat wholeWh s = ap (λ (t : ℕ). divide t (map (λ u. u .heatedArea) (s .units))) (same-heat-parts divide s (p .0) .1) ∙ more .0 in
-    let c : water e s ≡ water wholeWh s = ap (λ (xs : List ℕ). divide (getD xs 0 0) (map (waterWeight s) (s .units))) split ∙ more .1 .1 .0 in
-    let d : commonWater e s ≡ commonWater wholeWh s = ap (λ (xs : List ℕ). divide (getD xs 1 0) (map commonWaterWeight (s .units))) split ∙ more .1 .1 .1 .0 in
-    let es : energies e s ≡ energies wholeWh s = same-by-unit divide n (heat e s) (commonHeat e s) (water e s) (commonWater e s) ∙ (λ i. unitByUnit wholeWh n (a i) (b i) (c i) (d i)) in
-    record { same-energies = es; same-costs = ap (divide (billCents s)) es ∙ more .1 .1 .1 .1 .0 }
+    let a = same-heat divide rules s (p .0) in
+    let b : commonHeat e rules s ≡ commonHeat wholeWh rules s = ap (λ (t : ℕ). divide rules t (map (λ u. u .heatedArea) (s .units))) (same-heat-parts divide rules s (p .0) .1) ∙ more .0 in
+    let c : water e rules s ≡ water wholeWh rules s = ap (λ (xs : List ℕ). divide rules (getD xs 0 0) (map (waterWeight s) (s .units))) split ∙ more .1 .1 .0 in
+    let d : commonWater e rules s ≡ commonWater wholeWh rules s = ap (λ (xs : List ℕ). divide rules (getD xs 1 0) (map commonWaterWeight (s .units))) split ∙ more .1 .1 .1 .0 in
+    let es : energies e rules s ≡ energies wholeWh rules s = same-by-unit divide n (heat e rules s) (commonHeat e rules s) (water e rules s) (commonWater e rules s) ∙ (λ i. unitByUnit wholeWh n (a i) (b i) (c i) (d i)) in
+    record { same-energies = es; same-costs = ap (divide rules (billCents s)) es ∙ more .1 .1 .1 .1 .0 }

@@ -11,6 +11,7 @@ use Rattle.apportion.specs.Shares.{sum}
 use Rattle.sheet.specs.declared.refusal.Outcome.{Outcome}
 use Rattle.sheet.specs.declared.refusal.Outcome.the-variants.{Accepted, Refused}
 use Rattle.sheet.specs.Refusals.{firstRefusal}
+use Rattle.sheet.specs.declared.rule_set.RuleSet.{RuleSet}
 use Rattle.sheet.specs.Layout.{UnitRow, Sheet, sheetOf}
 use Rattle.month.specs.Fraction.{Fraction, Near, _over_}
 use Rattle.month.specs.Weights.{unreadUnits, allMetered, meteredSum}
@@ -27,125 +28,125 @@ use Rattle.month.proofs.Divisions.{by-meters, by-load, by-area, by-pool
 use Rattle.month.proofs.Bounds.{sum-bounds}
 use Rattle.month.proofs.Sums.{energies-length, energies-sum, bill-divisible, costs-fair}
 
-split-near : {t k : ℕ} {f : Fraction} (percent : ℕ) → Near t f k
-    → Near (splitBy wholeWh percent t .ofUnits) (splitBy unrounded percent f .ofUnits) (k + 1) × Near (splitBy wholeWh percent t .common) (splitBy unrounded percent f .common) (k + 1)
+split-near : (rules : RuleSet) {t k : ℕ} {f : Fraction} (percent : ℕ) → Near t f k
+    → Near (splitBy wholeWh rules percent t .ofUnits) (splitBy unrounded rules percent f .ofUnits) (k + 1) × Near (splitBy wholeWh rules percent t .common) (splitBy unrounded rules percent f .common) (k + 1)
 unfolding splitBy
-split-near {t} percent n = let d = near-divided (split-fair percent t) n in (d .at 0, d .at 1)
+split-near rules {t} percent n = let d = near-divided (split-fair rules percent t) n in (d .at 0, d .at 1)
 
 near-readings : (us : List UnitRow) → NearAll (map (λ u. u .reading) us) (map (λ u. u .reading over 1) us) 0
 near-readings [] = near-nil 0
 near-readings (u ∷ us) = near-cons (near-whole (u .reading)) (near-readings us)
 
 -- ---- each energy, step by step
-module _ (s : Sheet) (a : AcceptedSheet s) where
+module _ (rules : RuleSet) (s : Sheet) (a : AcceptedSheet s) where
   near-space : Near (spaceHeat wholeWh s) (spaceHeat unrounded s) 1
   unfolding spaceHeat hotWaterWh
   near-space = near-less (near-whole (s .sharedMeter)) (near-water s) (a .water-fits)
 
-  near-heat-parts : Near (heatParts wholeWh s .ofUnits) (heatParts unrounded s .ofUnits) 2 × Near (heatParts wholeWh s .common) (heatParts unrounded s .common) 2
+  near-heat-parts : Near (heatParts wholeWh rules s .ofUnits) (heatParts unrounded rules s .ofUnits) 2 × Near (heatParts wholeWh rules s .common) (heatParts unrounded rules s .common) 2
   unfolding heatParts spaceHeatWh
   near-heat-parts = elim (decided (allMetered s)) [
     | inl e ↦
         let c = near-whole (meteredSum s) in
         rw e (near-more (omega arith) c, near-more (omega arith) (near-less near-space c (a .meters-fit e)))
-    | inr e ↦ rw e (split-near (s .commonHeatPercent) near-space)
+    | inr e ↦ rw e (split-near rules (s .commonHeatPercent) near-space)
   ]
 
-  near-pool : NearAll (poolShares wholeWh s) (poolShares unrounded s) 3
+  near-pool : NearAll (poolShares wholeWh rules s) (poolShares unrounded rules s) 3
   unfolding poolShares
-  near-pool = near-divided (pool-fair s a) (near-heat-parts .0)
+  near-pool = near-divided (pool-fair rules s a) (near-heat-parts .0)
 
-  near-read : 3 ≤ s .model → NearAll (readShares wholeWh s) (readShares unrounded s) 4
+  near-read : 3 ≤ s .model → NearAll (readShares wholeWh rules s) (readShares unrounded rules s) 4
   unfolding readShares
-  near-read m = near-divided (read-fair s a m) (near-pool .at (length (unreadUnits s)))
+  near-read m = near-divided (read-fair rules s a m) (near-pool .at (length (unreadUnits s)))
 
-  near-heat : NearAll (heat wholeWh s) (heat unrounded s) 4
+  near-heat : NearAll (heat wholeWh rules s) (heat unrounded rules s) 4
   unfolding heat
   near-heat = elim (way s) [
     | by-meters e ↦ rw e (all-more (omega arith) (near-readings (s .units)))
-    | by-load e f ↦ rw (e, f) (all-more (omega arith) (near-divided (load-fair s a f) (near-heat-parts .0)))
-    | by-area e f g ↦ rw (e, f, g) (all-more (omega arith) (near-divided (area-fair s a (units-heat s)) (near-heat-parts .0)))
+    | by-load e f ↦ rw (e, f) (all-more (omega arith) (near-divided (load-fair rules s a f) (near-heat-parts .0)))
+    | by-area e f g ↦ rw (e, f, g) (all-more (omega arith) (near-divided (area-fair rules s a (units-heat rules s)) (near-heat-parts .0)))
     | by-pool e f g ↦ rw (e, f, g) (in-order-near (s .units) (all-more (omega arith) near-pool) (near-read (above-two s a f g)))
   ]
 
-  near-common-heat : NearAll (commonHeat wholeWh s) (commonHeat unrounded s) 3
+  near-common-heat : NearAll (commonHeat wholeWh rules s) (commonHeat unrounded rules s) 3
   unfolding commonHeat
-  near-common-heat = near-divided (area-fair s a (common-heat s)) (near-heat-parts .1)
+  near-common-heat = near-divided (area-fair rules s a (common-heat rules s)) (near-heat-parts .1)
 
-  near-water-parts : Near (waterParts wholeWh s .ofUnits) (waterParts unrounded s .ofUnits) 2 × Near (waterParts wholeWh s .common) (waterParts unrounded s .common) 2
+  near-water-parts : Near (waterParts wholeWh rules s .ofUnits) (waterParts unrounded rules s .ofUnits) 2 × Near (waterParts wholeWh rules s .common) (waterParts unrounded rules s .common) 2
   unfolding waterParts
-  near-water-parts = split-near (s .commonWaterPercent) (near-water s)
+  near-water-parts = split-near rules (s .commonWaterPercent) (near-water s)
 
-  near-units-water : NearAll (water wholeWh s) (water unrounded s) 3
+  near-units-water : NearAll (water wholeWh rules s) (water unrounded rules s) 3
   unfolding water
-  near-units-water = near-divided (water-fair s a) (near-water-parts .0)
+  near-units-water = near-divided (water-fair rules s a) (near-water-parts .0)
 
-  near-common-water : NearAll (commonWater wholeWh s) (commonWater unrounded s) 3
+  near-common-water : NearAll (commonWater wholeWh rules s) (commonWater unrounded rules s) 3
   unfolding commonWater
-  near-common-water = near-divided (common-water-fair s a) (near-water-parts .1)
+  near-common-water = near-divided (common-water-fair rules s a) (near-water-parts .1)
 
   -- EACH ENERGY IS WITHIN 4 Wh OF ITS UNROUNDED PORTION
-  pub energies-near : NearAll (energies wholeWh s) (energies unrounded s) 4
+  pub energies-near : NearAll (energies wholeWh rules s) (energies unrounded rules s) 4
   unfolding energies
   energies-near = by-unit-near (length (s .units)) near-heat (all-more (omega arith) near-common-heat) (all-more (omega arith) near-units-water) (all-more (omega arith) near-common-water)
 
   -- EACH CENT IS WITHIN 1 OF THE BILL'S PART
-  pub costs-near : (u j : ℕ) → Near (getD (costs s) (4 * u + j) 0) (billPart s u j) 1
+  pub costs-near : (u j : ℕ) → Near (getD (costs rules s) (4 * u + j) 0) (billPart rules s u j) 1
   unfolding billPart
   costs-near u j =
       let i = 4 * u + j in
-      let es = energies wholeWh s in
-      let fair = costs-fair s a in
+      let es = energies wholeWh rules s in
+      let fair = costs-fair rules s a in
       elim (decided (eqb (s .sharedMeter) 0)) [
         | inl e ↦
-            let z : sum es ≡ 0 = energies-sum s a ∙ eqb-true (s .sharedMeter) 0 e in
-            let y : getD (costs s) i 0 ≡ 0 = omega (arith, fair .within-total i, bill-divisible s a z) in
+            let z : sum es ≡ 0 = energies-sum rules s a ∙ eqb-true (s .sharedMeter) 0 e in
+            let y : getD (costs rules s) i 0 ≡ 0 = omega (arith, fair .within-total i, bill-divisible rules s a z) in
             rw (e, y) (near-zero 1)
         | inr e ↦
-            let h : 0 < sum es = omega (arith, energies-sum s a, eqb-false (s .sharedMeter) 0 e) in
-            let near = near-quotient (getD (costs s) i 0) (billCents s * getD es i 0) (sum es) h (fair .not-above h i) (fair .not-below h i) in
-            rw e (subst (λ (m : ℕ). Near (getD (costs s) i 0) ((billCents s * getD es i 0) over m) 1) (energies-sum s a) near)
+            let h : 0 < sum es = omega (arith, energies-sum rules s a, eqb-false (s .sharedMeter) 0 e) in
+            let near = near-quotient (getD (costs rules s) i 0) (billCents s * getD es i 0) (sum es) h (fair .not-above h i) (fair .not-below h i) in
+            rw e (subst (λ (m : ℕ). Near (getD (costs rules s) i 0) ((billCents s * getD es i 0) over m) 1) (energies-sum rules s a) near)
       ]
 
   -- EVERY NUMBER FITS 32 BITS, and all that specs/Laws.antt asks
-  pub month-laws : MonthLaws s (monthOf s)
+  pub month-laws : MonthLaws rules s (monthOf rules s)
   unfolding monthOf statementOf energyPortion
   month-laws =
       let n = length (s .units) in
-      let es = energies wholeWh s in
-      let cs = costs s in
-      let xs = statementOf s in
+      let es = energies wholeWh rules s in
+      let cs = costs rules s in
+      let xs = statementOf rules s in
       let c = a .checked-sheet .unit-count in
-      let le : length es ≡ 4 * n = energies-length s a in
-      let lc : length cs ≡ 4 * n = costs-fair s a .as-many ∙ le in
+      let le : length es ≡ 4 * n = energies-length rules s a in
+      let lc : length cs ≡ 4 * n = costs-fair rules s a .as-many ∙ le in
       let energy : (u j : ℕ) → u < n → j < 4 → getD xs (8 * u + j) 0 ≡ getD es (4 * u + j) 0 = λ u j h l. row-energy n es cs u j le lc h l in
       let cost : (u j : ℕ) → u < n → j < 4 → getD xs (8 * u + (4 + j)) 0 ≡ getD cs (4 * u + j) 0 = λ u j h l. row-cost n es cs u j le lc h l in
       record {
         is-month = refl;
         count = omega (arith, rows-length n es cs le lc);
         fit-32-bits = rows-below 4294967296 n es cs
-            (each-below 4294967296 es (omega (arith, energies-sum s a, a .checked-sheet .header .sharedMeter)))
-            (each-below 4294967296 cs (omega (arith, costs-fair s a .adds-up, sum-bounds s (a .checked-sheet) .bill)));
+            (each-below 4294967296 es (omega (arith, energies-sum rules s a, a .checked-sheet .header .sharedMeter)))
+            (each-below 4294967296 cs (omega (arith, costs-fair rules s a .adds-up, sum-bounds s (a .checked-sheet) .bill)));
         energies-add = ap (λ (k : ℕ). sumTo k (λ u. sumTo 4 (λ j. getD xs (8 * u + j) 0))) (sym c)
-            ∙ sumTo-cong n _ _ (λ u h. sumTo-cong 4 _ _ (λ j l. energy u j h l)) ∙ sum-by-fours n es le ∙ energies-sum s a;
+            ∙ sumTo-cong n _ _ (λ u h. sumTo-cong 4 _ _ (λ j l. energy u j h l)) ∙ sum-by-fours n es le ∙ energies-sum rules s a;
         cents-add = ap (λ (k : ℕ). sumTo k (λ u. sumTo 4 (λ j. getD xs (8 * u + (4 + j)) 0))) (sym c)
-            ∙ sumTo-cong n _ _ (λ u h. sumTo-cong 4 _ _ (λ j l. cost u j h l)) ∙ sum-by-fours n cs lc ∙ costs-fair s a .adds-up;
+            ∙ sumTo-cong n _ _ (λ u h. sumTo-cong 4 _ _ (λ j l. cost u j h l)) ∙ sum-by-fours n cs lc ∙ costs-fair rules s a .adds-up;
         energy-near = λ u j h l. rw (energy u j (omega arith) l) (energies-near .at (4 * u + j));
         cents-near = λ u j h l. rw (cost u j (omega arith) l) (costs-near u j);
-        divisible = all-divisible s a (bill-divisible s a);
+        divisible = all-divisible rules s a (bill-divisible rules s a);
       }
 
 -- ---- any bytes
 -- what settles is the month of an accepted sheet
-pub settled-month : (bytes : List ℕ) (m : Month) → settledSheet bytes ≡ settled m → (firstRefusal (settleRules bytes) ≡ Accepted) × (m ≡ monthOf (sheetOf bytes))
+pub settled-month : (rules : RuleSet) (bytes : List ℕ) (m : Month) → settledSheet rules bytes ≡ settled m → (firstRefusal (settleRules bytes) ≡ Accepted) × (m ≡ monthOf rules (sheetOf bytes))
 unfolding settledSheet
-settled-month bytes m = go (firstRefusal (settleRules bytes)) refl
+settled-month rules bytes m = go (firstRefusal (settleRules bytes)) refl
   where
-    go : (o : Outcome) → firstRefusal (settleRules bytes) ≡ o → unlessRefused o (monthOf (sheetOf bytes)) ≡ settled m → (firstRefusal (settleRules bytes) ≡ Accepted) × (m ≡ monthOf (sheetOf bytes))
+    go : (o : Outcome) → firstRefusal (settleRules bytes) ≡ o → unlessRefused o (monthOf rules (sheetOf bytes)) ≡ settled m → (firstRefusal (settleRules bytes) ≡ Accepted) × (m ≡ monthOf rules (sheetOf bytes))
     go Accepted e h = (e, cc)
     go (Refused r) e h = absurd (let z : _≡_ {A = ℕ} 0 1 = cc in omega arith)
 
 pub settled-laws : SettledLaws
-settled-laws bytes m h =
-    let k = settled-month bytes m h in
-    subst (MonthLaws (sheetOf bytes)) (sym (k .1)) (month-laws (sheetOf bytes) (accepted bytes (k .0)))
+settled-laws rules bytes m h =
+    let k = settled-month rules bytes m h in
+    subst (MonthLaws rules (sheetOf bytes)) (sym (k .1)) (month-laws rules (sheetOf bytes) (accepted bytes (k .0)))

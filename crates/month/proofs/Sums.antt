@@ -10,6 +10,7 @@ use lib.ListN.{length, length-map, length-append}
 use Rattle.apportion.specs.Shares.{sum}
 use Rattle.apportion.specs.Fair.{Fair}
 use Rattle.apportion.proofs.Laws.{shares-fair}
+use Rattle.sheet.specs.declared.rule_set.RuleSet.{RuleSet}
 use Rattle.sheet.specs.Layout.{UnitRow, Sheet}
 use Rattle.month.specs.Weights.{readUnits, unreadUnits, allMetered, meteredSum, unreadWeight, unreadWeights, poolWeight, readWeight, readWeights, waterWeight, commonWaterWeight}
 use Rattle.month.specs.Steps.{wholeWh, inUnitOrder, hotWater, spaceHeat, heatParts, poolShares, readShares, heat, commonHeat, waterParts, water, commonWater, energies}
@@ -23,92 +24,92 @@ use Rattle.month.proofs.Divisions.{by-meters, by-load, by-area, by-pool
 as-many-units : (f : UnitRow → ℕ) (us : List UnitRow) {t : ℕ} {xs : List ℕ} → Fair t (map f us) xs → length xs ≡ length us
 as-many-units f us fair = fair .as-many ∙ length-map us f
 
-module _ (s : Sheet) (a : AcceptedSheet s) where
+module _ (rules : RuleSet) (s : Sheet) (a : AcceptedSheet s) where
   -- ---- space heat
-  pub heat-parts : heatParts wholeWh s .ofUnits + heatParts wholeWh s .common ≡ spaceHeat wholeWh s
+  pub heat-parts : heatParts wholeWh rules s .ofUnits + heatParts wholeWh rules s .common ≡ spaceHeat wholeWh s
   unfolding heatParts spaceHeatWh
   heat-parts = elim (decided (allMetered s)) [
     | inl e ↦ rw e (omega (arith, a .meters-fit e))
-    | inr e ↦ rw e (split-sum (s .commonHeatPercent) (spaceHeat wholeWh s))
+    | inr e ↦ rw e (split-sum rules (s .commonHeatPercent) (spaceHeat wholeWh s))
   ]
 
-  pool-length : length (poolShares wholeWh s) ≡ length (unreadUnits s) + 1
+  pool-length : length (poolShares wholeWh rules s) ≡ length (unreadUnits s) + 1
   unfolding unreadWeights
   pool-length =
-      pool-fair s a .as-many
+      pool-fair rules s a .as-many
       ∙ omega (arith, length-append (map (unreadWeight s) (unreadUnits s)) (poolWeight s ∷ []), length-map (unreadUnits s) (unreadWeight s))
 
-  read-length : 3 ≤ s .model → length (readShares wholeWh s) ≡ length (readUnits s)
+  read-length : 3 ≤ s .model → length (readShares wholeWh rules s) ≡ length (readUnits s)
   unfolding readWeights
-  read-length m = as-many-units (readWeight s) (readUnits s) (read-fair s a m)
+  read-length m = as-many-units (readWeight rules s) (readUnits s) (read-fair rules s a m)
 
   -- the unread units' shares and the read ones' make the units' heat
-  pool-shared : 3 ≤ s .model → sum (inUnitOrder wholeWh (s .units) (poolShares wholeWh s) (readShares wholeWh s)) ≡ units-heat s
+  pool-shared : 3 ≤ s .model → sum (inUnitOrder wholeWh (s .units) (poolShares wholeWh rules s) (readShares wholeWh rules s)) ≡ units-heat rules s
   pool-shared m =
       omega (
         arith,
-        in-order-sum (s .units) (poolShares wholeWh s) (readShares wholeWh s),
-        sum-whole (length (readUnits s)) (readShares wholeWh s) (read-length m),
-        sum-last (length (unreadUnits s)) (poolShares wholeWh s) pool-length,
-        pool-fair s a .adds-up,
-        read-fair s a m .adds-up,
+        in-order-sum (s .units) (poolShares wholeWh rules s) (readShares wholeWh rules s),
+        sum-whole (length (readUnits s)) (readShares wholeWh rules s) (read-length m),
+        sum-last (length (unreadUnits s)) (poolShares wholeWh rules s) pool-length,
+        pool-fair rules s a .adds-up,
+        read-fair rules s a m .adds-up,
       )
 
-  metered-heat : allMetered s ≡ true → heatParts wholeWh s .ofUnits ≡ meteredSum s
+  metered-heat : allMetered s ≡ true → heatParts wholeWh rules s .ofUnits ≡ meteredSum s
   unfolding heatParts
   metered-heat e = rw e
 
-  heat-sum : sum (heat wholeWh s) ≡ units-heat s
+  heat-sum : sum (heat wholeWh rules s) ≡ units-heat rules s
   unfolding heat meteredSum
   heat-sum = elim (way s) [
     | by-meters e ↦ rw e (sym (metered-heat e))
-    | by-load e f ↦ rw (e, f) (load-fair s a f .adds-up)
-    | by-area e f g ↦ rw (e, f, g) (area-fair s a (units-heat s) .adds-up)
+    | by-load e f ↦ rw (e, f) (load-fair rules s a f .adds-up)
+    | by-area e f g ↦ rw (e, f, g) (area-fair rules s a (units-heat rules s) .adds-up)
     | by-pool e f g ↦ rw (e, f, g) (pool-shared (above-two s a f g))
   ]
 
-  heat-length : length (heat wholeWh s) ≡ length (s .units)
+  heat-length : length (heat wholeWh rules s) ≡ length (s .units)
   unfolding heat
   heat-length = elim (way s) [
     | by-meters e ↦ rw e (length-map (s .units) (λ u. u .reading))
-    | by-load e f ↦ rw (e, f) (as-many-units (λ u. u .heatLoad) (s .units) (load-fair s a f))
-    | by-area e f g ↦ rw (e, f, g) (as-many-units (λ u. u .heatedArea) (s .units) (area-fair s a (units-heat s)))
-    | by-pool e f g ↦ rw (e, f, g) (in-order-length (s .units) (poolShares wholeWh s) (readShares wholeWh s))
+    | by-load e f ↦ rw (e, f) (as-many-units (λ u. u .heatLoad) (s .units) (load-fair rules s a f))
+    | by-area e f g ↦ rw (e, f, g) (as-many-units (λ u. u .heatedArea) (s .units) (area-fair rules s a (units-heat rules s)))
+    | by-pool e f g ↦ rw (e, f, g) (in-order-length (s .units) (poolShares wholeWh rules s) (readShares wholeWh rules s))
   ]
 
   -- THE ENERGIES ARE 4n, AND ADD TO M
-  pub energies-length : length (energies wholeWh s) ≡ 4 * length (s .units)
+  pub energies-length : length (energies wholeWh rules s) ≡ 4 * length (s .units)
   unfolding energies
-  energies-length = by-unit-length (length (s .units)) (heat wholeWh s) (commonHeat wholeWh s) (water wholeWh s) (commonWater wholeWh s)
+  energies-length = by-unit-length (length (s .units)) (heat wholeWh rules s) (commonHeat wholeWh rules s) (water wholeWh rules s) (commonWater wholeWh rules s)
 
-  pub energies-sum : sum (energies wholeWh s) ≡ s .sharedMeter
+  pub energies-sum : sum (energies wholeWh rules s) ≡ s .sharedMeter
   unfolding energies spaceHeat hotWaterWh commonHeat waterParts
   energies-sum =
       let n = length (s .units) in
       omega (
         arith,
-        by-unit-sum n (heat wholeWh s) (commonHeat wholeWh s) (water wholeWh s) (commonWater wholeWh s),
-        sum-whole n (heat wholeWh s) heat-length,
-        sum-whole n (commonHeat wholeWh s) (as-many-units (λ u. u .heatedArea) (s .units) (area-fair s a (common-heat s))),
-        sum-whole n (water wholeWh s) (as-many-units (waterWeight s) (s .units) (water-fair s a)),
-        sum-whole n (commonWater wholeWh s) (as-many-units commonWaterWeight (s .units) (common-water-fair s a)),
+        by-unit-sum n (heat wholeWh rules s) (commonHeat wholeWh rules s) (water wholeWh rules s) (commonWater wholeWh rules s),
+        sum-whole n (heat wholeWh rules s) heat-length,
+        sum-whole n (commonHeat wholeWh rules s) (as-many-units (λ u. u .heatedArea) (s .units) (area-fair rules s a (common-heat rules s))),
+        sum-whole n (water wholeWh rules s) (as-many-units (waterWeight s) (s .units) (water-fair rules s a)),
+        sum-whole n (commonWater wholeWh rules s) (as-many-units commonWaterWeight (s .units) (common-water-fair rules s a)),
         heat-sum,
         heat-parts,
-        area-fair s a (common-heat s) .adds-up,
-        water-fair s a .adds-up,
-        common-water-fair s a .adds-up,
-        split-sum (s .commonWaterPercent) (hotWater wholeWh s),
+        area-fair rules s a (common-heat rules s) .adds-up,
+        water-fair rules s a .adds-up,
+        common-water-fair rules s a .adds-up,
+        split-sum rules (s .commonWaterPercent) (hotWater wholeWh s),
         a .water-fits,
       )
 
   -- ---- step 7: with M = 0 the bill is 0
-  pub bill-divisible : Divisible (billCents s by energies wholeWh s)
+  pub bill-divisible : Divisible (billCents s by energies wholeWh rules s)
   unfolding billCents
   bill-divisible e =
       let z : s .sharedMeter ≡ 0 = sym energies-sum ∙ e in
       ap (λ (m : ℕ). (m * s .price + 500000) / 1000000) z ∙ ap (λ (c : ℕ). (c + 500000) / 1000000) (zero-mul (s .price))
 
   -- THE CENTS ARE FAIR: 4n, AND ADD TO THE BILL
-  pub costs-fair : Fair (billCents s) (energies wholeWh s) (costs s)
+  pub costs-fair : Fair (billCents s) (energies wholeWh rules s) (costs rules s)
   unfolding costs
-  costs-fair = shares-fair (billCents s) (energies wholeWh s) bill-divisible
+  costs-fair = shares-fair (billCents s) (energies wholeWh rules s) bill-divisible

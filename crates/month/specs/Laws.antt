@@ -1,4 +1,4 @@
--- The laws of a month: what holds of every sheet that settles (`settled-laws`, proofs/Laws.antt); which divisions a month makes (`no-other-divisions`,
+-- The laws of a month, by all rules: what holds of every sheet that settles (`settled-laws`, proofs/Laws.antt); which divisions a month makes (`no-other-divisions`,
 -- proofs/Divisions.antt); that H rounded up refuses the sheets that the exact H does (`same-refusals`, proofs/Rounding.antt).
 use mathlib.Core.Bool.{Bool, false}
 use mathlib.Core.Path.{_≡_}
@@ -7,12 +7,13 @@ use Prim.Native.Nat.{ℕ, zero, suc, _+_, _*_, _-_, _≤_, _<_}
 use lib.Dec.{ltb, eqb}
 use lib.IntN.{ℤ, pos, negsuc, _-ℤ_}
 use lib.ListN.{length, getD}
-use Rattle.apportion.specs.Shares.{sum, shares}
+use Rattle.apportion.specs.Shares.{sum}
 use Rattle.sheet.specs.Tests.{if_then_else_, Each}
+use Rattle.sheet.specs.declared.rule_set.RuleSet.{RuleSet}
 use Rattle.sheet.specs.Layout.{Sheet, sheetOf}
 use Rattle.month.specs.Fraction.{Fraction, Near}
 use Rattle.month.specs.Weights.{unreadUnits, allMetered, meteredSum, unreadWeights, poolWeight, readWeights, waterWeight, commonWaterWeight}
-use Rattle.month.specs.Steps.{dividingBy, wholeWh, unrounded, item, hotWater, spaceHeat, heatParts, poolShares, waterParts, energies}
+use Rattle.month.specs.Steps.{sharesUnder, dividingBy, wholeWh, unrounded, item, hotWater, spaceHeat, heatParts, poolShares, waterParts, energies}
 use Rattle.month.specs.Month.{hotWaterWh, spaceHeatWh, billCents, costs, Month, monthOf, settled, settledSheet}
 use Rattle.month.specs.Portions.{energyPortion, billPart}
 
@@ -26,44 +27,47 @@ abbrev pub _by_ : ℕ → List ℕ → Division
 total by weights = record { total = total; weights = weights }
 
 -- steps 3 and 4: units' heat by q, by p, or over the units not read and the metered pool, then the pool over the read units
-unfoldable pub unitsHeatDivisions : Sheet → List Division
-unitsHeatDivisions s =
-    let unitsHeat = heatParts wholeWh s .ofUnits in
-    let pool = item wholeWh (length (unreadUnits s)) (poolShares wholeWh s) in
+unfoldable pub unitsHeatDivisions : RuleSet → Sheet → List Division
+unitsHeatDivisions rules s =
+    let unitsHeat = heatParts wholeWh rules s .ofUnits in
+    let pool = item wholeWh (length (unreadUnits s)) (poolShares wholeWh rules s) in
     if eqb (s .model) 1 then unitsHeat by map (λ u. u .heatLoad) (s .units) ∷ []
     else if eqb (s .model) 2 then unitsHeat by map (λ u. u .heatedArea) (s .units) ∷ []
-    else unitsHeat by (unreadWeights s ++ poolWeight s ∷ []) ∷ pool by readWeights s ∷ []
+    else unitsHeat by (unreadWeights s ++ poolWeight s ∷ []) ∷ pool by readWeights rules s ∷ []
 
 -- steps 2 to 4: nothing is divided where every meter is read
-unfoldable pub heatDivisions : Sheet → List Division
-heatDivisions s =
+unfoldable pub heatDivisions : RuleSet → Sheet → List Division
+heatDivisions rules s =
     if allMetered s then []
-    else spaceHeatWh s by ((100 - s .commonHeatPercent) ∷ s .commonHeatPercent ∷ []) ∷ unitsHeatDivisions s
+    else spaceHeatWh s by ((100 - s .commonHeatPercent) ∷ s .commonHeatPercent ∷ []) ∷ unitsHeatDivisions rules s
 
-unfoldable pub divisions : Sheet → List Division
-divisions s =
-    heatDivisions s
-    ++ heatParts wholeWh s .common by map (λ u. u .heatedArea) (s .units)  -- 5
+unfoldable pub divisions : RuleSet → Sheet → List Division
+divisions rules s =
+    heatDivisions rules s
+    ++ heatParts wholeWh rules s .common by map (λ u. u .heatedArea) (s .units)  -- 5
     ∷ hotWaterWh s by ((100 - s .commonWaterPercent) ∷ s .commonWaterPercent ∷ [])  -- 6
-    ∷ waterParts wholeWh s .ofUnits by map (waterWeight s) (s .units)
-    ∷ waterParts wholeWh s .common by map commonWaterWeight (s .units)
-    ∷ billCents s by energies wholeWh s  -- 7
+    ∷ waterParts wholeWh rules s .ofUnits by map (waterWeight s) (s .units)
+    ∷ waterParts wholeWh rules s .common by map commonWaterWeight (s .units)
+    ∷ billCents s by energies wholeWh rules s  -- 7
     ∷ []
 
 -- not W = 0 with T > 0
 abbrev pub Divisible : Division → Type 0
 Divisible d = sum (d .weights) ≡ 0 → d .total ≡ 0
 
--- The month of any sheet makes these divisions and no others: by a method that does as `shares` on them it comes out the same.
-abbrev pub DoesAsShares : (ℕ → List ℕ → List ℕ) → Division → Type 0
-DoesAsShares divide d = divide (d .total) (d .weights) ≡ shares (d .total) (d .weights)
+-- The month of any sheet makes these divisions and no others: by a method that does as `sharesUnder` on them it comes out the same.
+abbrev pub Method : Type 0
+Method = RuleSet → ℕ → List ℕ → List ℕ
 
-pub record SameMonth (s : Sheet) (divide : ℕ → List ℕ → List ℕ) : Type 0 where
-  pub same-energies : energies (dividingBy divide) s ≡ energies wholeWh s
-  pub same-costs : divide (billCents s) (energies (dividingBy divide) s) ≡ costs s
+abbrev pub DoesAsShares : RuleSet → Method → Division → Type 0
+DoesAsShares rules divide d = divide rules (d .total) (d .weights) ≡ sharesUnder rules (d .total) (d .weights)
+
+pub record SameMonth (rules : RuleSet) (s : Sheet) (divide : Method) : Type 0 where
+  pub same-energies : energies (dividingBy divide) rules s ≡ energies wholeWh rules s
+  pub same-costs : divide rules (billCents s) (energies (dividingBy divide) rules s) ≡ costs rules s
 
 abbrev pub NoOtherDivisions : Type 0
-NoOtherDivisions = (s : Sheet) (divide : ℕ → List ℕ → List ℕ) → Each (DoesAsShares divide) (divisions s) → SameMonth s divide
+NoOtherDivisions = (rules : RuleSet) (s : Sheet) (divide : Method) → Each (DoesAsShares rules divide) (divisions rules s) → SameMonth rules s divide
 
 -- ---- a settled month
 -- f 0 + .. + f (k − 1)
@@ -78,21 +82,21 @@ energyAt m u j = getD (m .numbers) (8 * u + j) 0
 abbrev pub centsAt : Month → ℕ → ℕ → ℕ
 centsAt m u j = getD (m .numbers) (8 * u + (4 + j)) 0
 
-pub record MonthLaws (s : Sheet) (m : Month) : Type 0 where
-  pub is-month : m ≡ monthOf s
+pub record MonthLaws (rules : RuleSet) (s : Sheet) (m : Month) : Type 0 where
+  pub is-month : m ≡ monthOf rules s
   pub count : length (m .numbers) ≡ 8 * m .unitCount
   pub fit-32-bits : Each (λ x. x < 4294967296) (m .numbers)
   -- the energies of all units add to M, the cents to the bill
   pub energies-add : sumTo (m .unitCount) (λ u. sumTo 4 (λ j. energyAt m u j)) ≡ m .meter
   pub cents-add : sumTo (m .unitCount) (λ u. sumTo 4 (λ j. centsAt m u j)) ≡ m .bill
   -- at most 4 Wh from the unrounded portion, at most 1 cent from the bill's part
-  pub energy-near : (u j : ℕ) → u < m .unitCount → j < 4 → Near (energyAt m u j) (energyPortion s u j) 4
-  pub cents-near : (u j : ℕ) → u < m .unitCount → j < 4 → Near (centsAt m u j) (billPart s u j) 1
+  pub energy-near : (u j : ℕ) → u < m .unitCount → j < 4 → Near (energyAt m u j) (energyPortion rules s u j) 4
+  pub cents-near : (u j : ℕ) → u < m .unitCount → j < 4 → Near (centsAt m u j) (billPart rules s u j) 1
   -- W = 0 with T > 0 never arises
-  pub divisible : Each Divisible (divisions s)
+  pub divisible : Each Divisible (divisions rules s)
 
 abbrev pub SettledLaws : Type 0
-SettledLaws = (bytes : List ℕ) (m : Month) → settledSheet bytes ≡ settled m → MonthLaws (sheetOf bytes) m
+SettledLaws = (rules : RuleSet) (bytes : List ℕ) (m : Month) → settledSheet rules bytes ≡ settled m → MonthLaws rules (sheetOf bytes) m
 
 -- ---- 8, 9 and 11 by H rounded up and by the exact H
 -- a whole number below or above a fraction, by whole numbers over the fraction's lower

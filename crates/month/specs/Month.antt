@@ -11,10 +11,11 @@ use Rattle.sheet.specs.declared.refusal.Refusal.the-variants.{HotWaterExceedsMe
 use Rattle.sheet.specs.declared.refusal.Outcome.{Outcome}
 use Rattle.sheet.specs.declared.refusal.Outcome.the-variants.{Accepted, Refused}
 use Rattle.sheet.specs.Refusals.{Rule, _⇒_, firstRefusal}
+use Rattle.sheet.specs.declared.rule_set.RuleSet.{RuleSet}
 use Rattle.sheet.specs.Layout.{Sheet, sheetOf}
 use Rattle.sheet.specs.Check.{sheetRules}
 use Rattle.month.specs.Weights.{sumOf, readUnits, allMetered, meteredSum, hasPool, totalArea, unreadWeights, readSurface, unitsOfClass, litresOfClass1, personsOfClass2, commonWaterWeight}
-use Rattle.month.specs.Steps.{wholeWh, hotWater, spaceHeat, energies}
+use Rattle.month.specs.Steps.{sharesUnder, wholeWh, hotWater, spaceHeat, energies}
 
 -- ---- 8 to 12
 -- H and EG in whole Wh
@@ -58,16 +59,16 @@ unfoldable pub billCents : Sheet → ℕ
 billCents s = (s .sharedMeter * s .price + 500000) / 1000000
 
 -- the bill divided over the 4n energies as weights
-unfoldable pub costs : Sheet → List ℕ
-costs s = shares (billCents s) (energies wholeWh s)
+unfoldable pub costs : RuleSet → Sheet → List ℕ
+costs rules s = sharesUnder rules (billCents s) (energies wholeWh rules s)
 
 -- the statement, 8n numbers: per unit four Wh, four cents
 unfoldable pub fourAndFour : ℕ → List ℕ → List ℕ → List ℕ
 fourAndFour zero es cs = []
 fourAndFour (suc n) es cs = take 4 es ++ (take 4 cs ++ fourAndFour n (drop 4 es) (drop 4 cs))
 
-unfoldable pub statementOf : Sheet → List ℕ
-statementOf s = fourAndFour (length (s .units)) (energies wholeWh s) (costs s)
+unfoldable pub statementOf : RuleSet → Sheet → List ℕ
+statementOf rules s = fourAndFour (length (s .units)) (energies wholeWh rules s) (costs rules s)
 
 -- ---- the answer for any bytes
 pub record Month : Type 0 where
@@ -78,21 +79,21 @@ pub record Month : Type 0 where
   pub bill : ℕ
   pub numbers : List ℕ  -- the statement
 
-unfoldable pub monthOf : Sheet → Month
-monthOf s = record {
+unfoldable pub monthOf : RuleSet → Sheet → Month
+monthOf rules s = record {
   month = s .month;
   unitCount = s .unitCount;
   ids = map (λ u. u .id) (s .units);
   meter = s .sharedMeter;
   bill = billCents s;
-  numbers = statementOf s;
+  numbers = statementOf rules s;
 }
 
 pub data Settled : Type 0 where
   refused : Refusal → Settled
   settled : Month → Settled
 
--- 1 to 7, then 8 to 12
+-- 1 to 7, then 8 to 12: the same by all rules
 unfoldable pub settleRules : List ℕ → List Rule
 settleRules bytes = sheetRules 32 bytes ++ monthRules (sheetOf bytes)
 
@@ -100,5 +101,5 @@ abbrev pub unlessRefused : Outcome → Month → Settled
 unlessRefused Accepted m = settled m
 unlessRefused (Refused r) m = refused r
 
-unfoldable pub settledSheet : List ℕ → Settled
-settledSheet bytes = unlessRefused (firstRefusal (settleRules bytes)) (monthOf (sheetOf bytes))
+unfoldable pub settledSheet : RuleSet → List ℕ → Settled
+settledSheet rules bytes = unlessRefused (firstRefusal (settleRules bytes)) (monthOf rules (sheetOf bytes))

@@ -2,10 +2,12 @@
 use mathlib.Core.Bool.{Bool, not, _&&_, _||_}
 use mathlib.Core.List.{List, [], _∷_, map}
 use Prim.Native.Nat.{ℕ, _+_, _*_, _-_, min, max}
-use lib.Dec.{leb, eqb}
+use lib.Dec.{leb, ltb, eqb}
 use lib.ListN.{length}
 use Rattle.apportion.specs.Shares.{sum}
 use Rattle.sheet.specs.Tests.{if_then_else_, all}
+use Rattle.sheet.specs.declared.rule_set.RuleSet.{RuleSet}
+use Rattle.sheet.specs.RuleSets.{limitsRisers}
 use Rattle.sheet.specs.Layout.{UnitRow, Sheet}
 
 -- ---- lists of units
@@ -71,7 +73,7 @@ readArea s = sumOf (λ u. u .heatedArea) (readUnits s)
 unfoldable pub readSurface : Sheet → ℕ
 readSurface s = sumOf (λ u. u .riserSurface) (readUnits s)
 
--- r lowered to 300 × base, raised to 40 × base (article 8 (6), (7))
+-- r lowered to 300 × base, raised to 40 × base (articles 8 (6), (7) and 9 (6), (7))
 abbrev pub limited : ℕ → ℕ → ℕ
 limited base r = max (40 * base) (min (300 * base) r)
 
@@ -81,22 +83,22 @@ areaWeight s u =
     let r = (100 - s .basePercent) * u .reading * readArea s + s .basePercent * u .heatedArea * readingSum s in
     limited (u .heatedArea * readingSum s) r * u .locationFactor
 
--- model 4: r = (100 − v) × b × S + v × s × B, no limits (own), then × KF
-unfoldable pub surfaceWeight : Sheet → UnitRow → ℕ
-surfaceWeight s u =
+-- model 4: r = (100 − v) × b × S + v × s × B; since 2026-01 limited by s × B, a unit with s = 0 keeps its r; then × KF
+unfoldable pub surfaceWeight : RuleSet → Sheet → UnitRow → ℕ
+surfaceWeight rules s u =
     let r = (100 - s .basePercent) * u .reading * readSurface s + s .basePercent * u .riserSurface * readingSum s in
-    r * u .locationFactor
+    (if limitsRisers rules && ltb 0 (u .riserSurface) then limited (u .riserSurface * readingSum s) r else r) * u .locationFactor
 
 -- models 3 and 4 as above, model 5 b; if B = 0: p × KF, for model 4 s × KF (own)
-unfoldable pub readWeight : Sheet → UnitRow → ℕ
-readWeight s u =
+unfoldable pub readWeight : RuleSet → Sheet → UnitRow → ℕ
+readWeight rules s u =
     if eqb (readingSum s) 0 then (if eqb (s .model) 4 then u .riserSurface * u .locationFactor else u .heatedArea * u .locationFactor)
     else if eqb (s .model) 3 then areaWeight s u
-    else if eqb (s .model) 4 then surfaceWeight s u
+    else if eqb (s .model) 4 then surfaceWeight rules s u
     else u .reading
 
-unfoldable pub readWeights : Sheet → List ℕ
-readWeights s = map (readWeight s) (readUnits s)
+unfoldable pub readWeights : RuleSet → Sheet → List ℕ
+readWeights rules s = map (readWeight rules s) (readUnits s)
 
 -- ---- step 6
 abbrev pub ofClass : ℕ → Sheet → List UnitRow

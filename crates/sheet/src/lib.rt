@@ -5,6 +5,7 @@ pub mod header;
 mod ranges;
 mod refusal;
 pub mod rows;
+mod rule_set;
 mod tables;
 mod watt_hours;
 
@@ -15,5 +16,8 @@ pub use refusal::Outcome;
 pub use refusal::Refusal;
 pub use refusal::number;
 pub use refusal::place;
+pub use rule_set::NEWEST;
+pub use rule_set::RuleSet;
+pub use rule_set::limits_risers;
 pub use watt_hours::Sum;
 pub use watt_hours::Wh;

@@ -7,6 +7,8 @@ use lib.ListN.{getD, drop}
 use Rattle.apportion.specs.Shares.{sharesBy, shares}
 use Rattle.sheet.specs.Tests.{all, any}
 use Rattle.sheet.specs.Refusals.{numberOf, placeOf, firstRefusal}
+use Rattle.sheet.specs.declared.rule_set.RuleSet.{RuleSet}
+use Rattle.sheet.specs.declared.rule_set.RuleSet.the-variants.{Version1, Version2}
 use Rattle.sheet.specs.Layout.{inBytes, unitRow, rows, sheetOf}
 use Rattle.sheet.specs.Check.{headerTests, rowTests, rowRules, sheetRules}
 use Rattle.sheet.specs.Cases.Samples.{unitBytes, joined, sheetBytes, heated, sheetA, unitsA, caseA}
@@ -70,14 +72,14 @@ abbrev heatsOf : Settled → Answer
 heatsOf (settled m) = numbers (everyEighth (m .unitCount) (m .numbers))
 heatsOf (refused r) = refuses (numberOf r) (placeOf r)
 
-whole : List ℕ → Answer
-whole bytes = wholeOf (settledSheet bytes)
+whole : RuleSet → List ℕ → Answer
+whole rules bytes = wholeOf (settledSheet rules bytes)
 
-answer : List ℕ → Answer
-answer bytes = answerOf (settledSheet bytes)
+answer : RuleSet → List ℕ → Answer
+answer rules bytes = answerOf (settledSheet rules bytes)
 
-heats : List ℕ → Answer
-heats bytes = heatsOf (settledSheet bytes)
+heats : RuleSet → List ℕ → Answer
+heats rules bytes = heatsOf (settledSheet rules bytes)
 
 pool : List ℕ → Answer
 pool bytes = numbers (poolWeight (sheetOf bytes) ∷ [])
@@ -114,16 +116,16 @@ monthA = record {
       ∷ [];
 }
 
--- document 01's
-casesAtoL : List Case
-casesAtoL =
-    whole caseA gives settlesTo monthA  -- A
-    ∷ heats (sheetA 30 (unitsA 0 400 600)) gives numbers (78049 ∷ 277073 ∷ 444878 ∷ [])  -- B
-    ∷ heats (sheetA 30 (unitsA 1000 0 0)) gives numbers (571429 ∷ 76190 ∷ 152381 ∷ [])  -- C
-    ∷ heats (sheetA 30 unitsD) gives numbers (600000 ∷ 66667 ∷ 133333 ∷ [])  -- D
+-- document 01's, the same by all rules
+casesAtoL : RuleSet → List Case
+casesAtoL rules =
+    whole rules caseA gives settlesTo monthA  -- A
+    ∷ heats rules (sheetA 30 (unitsA 0 400 600)) gives numbers (78049 ∷ 277073 ∷ 444878 ∷ [])  -- B
+    ∷ heats rules (sheetA 30 (unitsA 1000 0 0)) gives numbers (571429 ∷ 76190 ∷ 152381 ∷ [])  -- C
+    ∷ heats rules (sheetA 30 unitsD) gives numbers (600000 ∷ 66667 ∷ 133333 ∷ [])  -- D
     ∷ pool (sheetA 30 unitsE) gives numbers (0 ∷ [])  -- E
-    ∷ heats (sheetA 30 unitsE) gives numbers (800000 ∷ 0 ∷ [])  -- E settles
-    ∷ answer (sheetA 31 unitsE) gives refuses 12 0  -- F
+    ∷ heats rules (sheetA 30 unitsE) gives numbers (800000 ∷ 0 ∷ [])  -- E settles
+    ∷ answer rules (sheetA 31 unitsE) gives refuses 12 0  -- F
     ∷ numbers (shares 10 (1 ∷ 1 ∷ 1 ∷ [])) gives numbers (4 ∷ 3 ∷ 3 ∷ [])  -- G
     ∷ numbers (shares 5 (0 ∷ 3 ∷ 1 ∷ [])) gives numbers (0 ∷ 4 ∷ 1 ∷ [])  -- H
     ∷ hotWaterOf 2 51 (first 1) gives numbers (82 ∷ [])  -- I
@@ -132,16 +134,16 @@ casesAtoL =
     ∷ billOf 49 10000 gives numbers (0 ∷ [])  -- L
     ∷ []
 
--- others
-casesByHand : List Case
-casesByHand =
+-- others, the same by all rules
+casesByHand : RuleSet → List Case
+casesByHand rules =
     -- Model 1, q 1,000 and 3,000. Of the ten cents 2.5 and 7.5 are due: the earlier gets the half.
-    answer (sheet 1 0 0 0 0 0 0 1000 10000 (first 0) (unitBytes 11 0 0 1000 100 0 1000 0 0 0 ∷ unitBytes 12 0 0 1000 100 0 3000 0 0 0 ∷ []))
+    answer rules (sheet 1 0 0 0 0 0 0 1000 10000 (first 0) (unitBytes 11 0 0 1000 100 0 1000 0 0 0 ∷ unitBytes 12 0 0 1000 100 0 3000 0 0 0 ∷ []))
     gives settles 10 (250 ∷ 0 ∷ 0 ∷ 0 ∷ 3 ∷ 0 ∷ 0 ∷ 0 ∷ 750 ∷ 0 ∷ 0 ∷ 0 ∷ 7 ∷ 0 ∷ 0 ∷ 0 ∷ [])
     -- The same q, whatever p and KF.
-    ∷ heats (sheet 1 0 0 0 0 0 0 1000 10000 (first 0) (unitBytes 11 0 0 1000 300 0 1000 0 0 0 ∷ unitBytes 12 0 0 500 100 0 3000 0 0 0 ∷ [])) gives numbers (250 ∷ 750 ∷ [])
+    ∷ heats rules (sheet 1 0 0 0 0 0 0 1000 10000 (first 0) (unitBytes 11 0 0 1000 300 0 1000 0 0 0 ∷ unitBytes 12 0 0 500 100 0 3000 0 0 0 ∷ [])) gives numbers (250 ∷ 750 ∷ [])
     -- Model 2 with both water classes: n1 2, n2 1, L 40, N2 4, so 480 Wh by 240, 80, 160; common water 120 Wh by 1, 3, 4; the fourth unit has no water.
-    ∷ answer (waterSheet 20 (unitBytes 11 0 1 1000 50 0 0 0 30 1 ∷ unitBytes 12 0 1 1000 50 0 0 0 10 3 ∷ unitBytes 13 0 2 1000 100 0 0 0 0 4 ∷ unitBytes 14 0 0 1000 200 0 0 0 0 0 ∷ []))
+    ∷ answer rules (waterSheet 20 (unitBytes 11 0 1 1000 50 0 0 0 30 1 ∷ unitBytes 12 0 1 1000 50 0 0 0 10 3 ∷ unitBytes 13 0 2 1000 100 0 0 0 0 4 ∷ unitBytes 14 0 0 1000 200 0 0 0 0 0 ∷ []))
     gives settles 10 (
     50 ∷ 0 ∷ 240 ∷ 15 ∷ 1 ∷ 0 ∷ 2 ∷ 0
     ∷ 50 ∷ 0 ∷ 80 ∷ 45 ∷ 0 ∷ 0 ∷ 1 ∷ 0
@@ -150,7 +152,7 @@ casesByHand =
     ∷ []
     )
     -- One unit of class 1, two of class 2: n1 1, n2 2, L 10, N2 4, so 600 Wh by 1 × 10 × 4 = 40, 2 × 1 × 10 = 20, 2 × 3 × 10 = 60; heat 400 Wh by p, whatever q and KF.
-    ∷ answer (waterSheet 0 (unitBytes 11 0 1 1000 100 0 700 0 10 5 ∷ unitBytes 12 0 2 1000 100 0 0 0 0 1 ∷ unitBytes 13 0 2 500 200 0 0 0 0 3 ∷ []))
+    ∷ answer rules (waterSheet 0 (unitBytes 11 0 1 1000 100 0 700 0 10 5 ∷ unitBytes 12 0 2 1000 100 0 0 0 0 1 ∷ unitBytes 13 0 2 500 200 0 0 0 0 3 ∷ []))
     gives settles 10 (
     100 ∷ 0 ∷ 200 ∷ 0 ∷ 1 ∷ 0 ∷ 2 ∷ 0
     ∷ 100 ∷ 0 ∷ 100 ∷ 0 ∷ 1 ∷ 0 ∷ 1 ∷ 0
@@ -162,14 +164,14 @@ casesByHand =
     -- The bill just under half a cent, 499,999 millionths.
     ∷ billOf 499999 1 gives numbers (0 ∷ [])
     -- A with v 20: r is 80 × b × 2,000 + 20 × p × 1,000, in millions 16 + 10, 48 + 10, 96 + 20, of 200.
-    ∷ heats (sheet 3 0 20 20 0 30 0 1000000 10000 (first 0) (unitsA 100 300 600)) gives numbers (104000 ∷ 232000 ∷ 464000 ∷ [])
+    ∷ heats rules (sheet 3 0 20 20 0 30 0 1000000 10000 (first 0) (unitsA 100 300 600)) gives numbers (104000 ∷ 232000 ∷ 464000 ∷ [])
     -- Model 3 with KF 1,000, 200, 1,000: r 15, 85, 100 millions, the first raised to 20, so weights 20, 17, 100.
-    ∷ heats (sheet 3 0 30 50 0 30 0 274000 10000 (first 0) (heated 11 0 1000 500 0 ∷ heated 12 0 200 500 500 ∷ heated 13 0 1000 1000 500 ∷ []))
+    ∷ heats rules (sheet 3 0 30 50 0 30 0 274000 10000 (first 0) (heated 11 0 1000 500 0 ∷ heated 12 0 200 500 500 ∷ heated 13 0 1000 1000 500 ∷ []))
     gives numbers (20000 ∷ 17000 ∷ 100000 ∷ [])
     -- Model 3, unit 11 in status 3: a quarter of 800,000 by its p, whatever KF. A is 1,500: r 40.5 and 49.5 millions.
-    ∷ heats (sheetA 30 (heated 11 3 500 500 0 ∷ heated 12 0 1000 500 300 ∷ heated 13 0 1000 1000 300 ∷ [])) gives numbers (200000 ∷ 270000 ∷ 330000 ∷ [])
+    ∷ heats rules (sheetA 30 (heated 11 3 500 500 0 ∷ heated 12 0 1000 500 300 ∷ heated 13 0 1000 1000 300 ∷ [])) gives numbers (200000 ∷ 270000 ∷ 330000 ∷ [])
     -- C whole. Heat by 15, 2, 4 of 21: two Wh are left over, for units 13 and 11. Of the cents 5,714.29, 761.90, 1,523.81 are due: two left over, for 12 and 13.
-    ∷ answer (sheetA 30 (unitsA 1000 0 0))
+    ∷ answer rules (sheetA 30 (unitsA 1000 0 0))
     gives settles 10000 (
     571429 ∷ 50000 ∷ 0 ∷ 0 ∷ 5714 ∷ 500 ∷ 0 ∷ 0
     ∷ 76190 ∷ 50000 ∷ 0 ∷ 0 ∷ 762 ∷ 500 ∷ 0 ∷ 0
@@ -177,37 +179,34 @@ casesByHand =
     ∷ []
     )
     -- D with unit 11 in status 2: a quarter by its p, though few units are faulty. In status 4: three quarters, as without a device.
-    ∷ heats (sheetA 30 (heated 11 2 1000 500 0 ∷ heated 12 0 1000 500 300 ∷ heated 13 0 1000 1000 600 ∷ [])) gives numbers (200000 ∷ 200000 ∷ 400000 ∷ [])
-    ∷ heats (sheetA 30 (heated 11 4 1000 500 0 ∷ heated 12 0 1000 500 300 ∷ heated 13 0 1000 1000 600 ∷ [])) gives numbers (600000 ∷ 66667 ∷ 133333 ∷ [])
+    ∷ heats rules (sheetA 30 (heated 11 2 1000 500 0 ∷ heated 12 0 1000 500 300 ∷ heated 13 0 1000 1000 600 ∷ [])) gives numbers (200000 ∷ 200000 ∷ 400000 ∷ [])
+    ∷ heats rules (sheetA 30 (heated 11 4 1000 500 0 ∷ heated 12 0 1000 500 300 ∷ heated 13 0 1000 1000 600 ∷ [])) gives numbers (600000 ∷ 66667 ∷ 133333 ∷ [])
     -- D with KF 500 of unit 12: the pool of 200,000 by 1 and 4; unit 11 keeps its 600,000.
-    ∷ heats (sheetA 30 (heated 11 1 1000 500 0 ∷ heated 12 0 500 500 300 ∷ heated 13 0 1000 1000 600 ∷ [])) gives numbers (600000 ∷ 40000 ∷ 160000 ∷ [])
+    ∷ heats rules (sheetA 30 (heated 11 1 1000 500 0 ∷ heated 12 0 500 500 300 ∷ heated 13 0 1000 1000 600 ∷ [])) gives numbers (600000 ∷ 40000 ∷ 160000 ∷ [])
     -- Model 3, B = 0: by p × KF.
-    ∷ heats (sheetA 30 (heated 11 0 1000 500 0 ∷ heated 12 0 500 1000 0 ∷ [])) gives numbers (400000 ∷ 400000 ∷ [])
+    ∷ heats rules (sheetA 30 (heated 11 0 1000 500 0 ∷ heated 12 0 500 1000 0 ∷ [])) gives numbers (400000 ∷ 400000 ∷ [])
     -- Model 3, units 12 and 13 in status 2: three equal weights, in row order 12, 13 and last the rest, which is unit 11's. One Wh, then two.
-    ∷ heats (lastTheRest 1) gives numbers (0 ∷ 1 ∷ 0 ∷ [])
-    ∷ heats (lastTheRest 2) gives numbers (0 ∷ 1 ∷ 1 ∷ [])
+    ∷ heats rules (lastTheRest 1) gives numbers (0 ∷ 1 ∷ 0 ∷ [])
+    ∷ heats rules (lastTheRest 2) gives numbers (0 ∷ 1 ∷ 1 ∷ [])
     -- One Wh in two equal parts is the units': of heat by z 50, of water by y 50.
-    ∷ answer (sheet 3 0 30 50 0 30 0 1 10000 (first 0) (heated 11 0 1000 500 100 ∷ [])) gives settles 0 (1 ∷ 0 ∷ 0 ∷ 0 ∷ 0 ∷ 0 ∷ 0 ∷ 0 ∷ [])
-    ∷ answer (sheet 2 1 0 0 50 0 0 1 10000 (first 1) (unitBytes 11 0 1 1000 100 0 0 0 5 1 ∷ [])) gives settles 0 (0 ∷ 0 ∷ 1 ∷ 0 ∷ 0 ∷ 0 ∷ 0 ∷ 0 ∷ [])
+    ∷ answer rules (sheet 3 0 30 50 0 30 0 1 10000 (first 0) (heated 11 0 1000 500 100 ∷ [])) gives settles 0 (1 ∷ 0 ∷ 0 ∷ 0 ∷ 0 ∷ 0 ∷ 0 ∷ 0 ∷ [])
+    ∷ answer rules (sheet 2 1 0 0 50 0 0 1 10000 (first 1) (unitBytes 11 0 1 1000 100 0 0 0 5 1 ∷ [])) gives settles 0 (0 ∷ 0 ∷ 1 ∷ 0 ∷ 0 ∷ 0 ∷ 0 ∷ 0 ∷ [])
     -- Model 3, M = 0: nothing by energies of sum 0.
-    ∷ answer (sheet 3 0 30 20 0 30 0 0 10000 (first 0) (heated 11 0 1000 500 100 ∷ [])) gives settles 0 (0 ∷ 0 ∷ 0 ∷ 0 ∷ 0 ∷ 0 ∷ 0 ∷ 0 ∷ [])
+    ∷ answer rules (sheet 3 0 30 20 0 30 0 0 10000 (first 0) (heated 11 0 1000 500 100 ∷ [])) gives settles 0 (0 ∷ 0 ∷ 0 ∷ 0 ∷ 0 ∷ 0 ∷ 0 ∷ 0 ∷ [])
     -- Model 4, v 50, z 10: r 80,000 each, KF 1,000 and 500. H by t 50 and ten litres is 810, by persons 2 and 1.
-    ∷ answer (sheet 4 2 50 10 0 30 50 1810 100000 (first 10) (unitBytes 11 0 2 1000 100 10 0 30 0 2 ∷ unitBytes 12 0 2 500 300 30 0 10 0 1 ∷ []))
+    ∷ answer rules (sheet 4 2 50 10 0 30 50 1810 100000 (first 10) (unitBytes 11 0 2 1000 100 10 0 30 0 2 ∷ unitBytes 12 0 2 500 300 30 0 10 0 1 ∷ []))
     gives settles 181 (600 ∷ 25 ∷ 540 ∷ 0 ∷ 60 ∷ 3 ∷ 54 ∷ 0 ∷ 300 ∷ 75 ∷ 270 ∷ 0 ∷ 30 ∷ 7 ∷ 27 ∷ 0 ∷ [])
-    -- Model 4, v 10, unit 11 without a device: three quarters by its p. S is 40, B 40: r 4,000, 80,000, 76,000.
-    ∷ heats (sheet 4 0 10 0 0 30 0 3200 10000 (first 0) (unitBytes 11 1 0 1000 100 40 0 0 0 0 ∷ unitBytes 12 0 0 1000 100 10 0 0 0 0 ∷ unitBytes 13 0 0 1000 100 20 0 20 0 0 ∷ unitBytes 14 0 0 1000 100 10 0 20 0 0 ∷ []))
-    gives numbers (2400 ∷ 20 ∷ 400 ∷ 380 ∷ [])
     -- Model 4, s 100, 200, 300, unit 11 without a device: three quarters of 800,000 by its p, whatever s. S is 500, B 900: r 15.9 and 29.1 millions.
-    ∷ heats (sheet 4 0 30 20 0 30 0 1000000 10000 (first 0) (unitBytes 11 1 0 1000 500 100 0 0 0 0 ∷ unitBytes 12 0 0 1000 500 200 0 300 0 0 ∷ unitBytes 13 0 0 1000 1000 300 0 600 0 0 ∷ []))
+    ∷ heats rules (sheet 4 0 30 20 0 30 0 1000000 10000 (first 0) (unitBytes 11 1 0 1000 500 100 0 0 0 0 ∷ unitBytes 12 0 0 1000 500 200 0 300 0 0 ∷ unitBytes 13 0 0 1000 1000 300 0 600 0 0 ∷ []))
     gives numbers (600000 ∷ 70667 ∷ 129333 ∷ [])
     -- Model 4, B = 0: by s × KF.
-    ∷ heats (sheet 4 0 50 0 0 30 0 900 10000 (first 0) (unitBytes 11 0 0 1000 100 10 0 0 0 0 ∷ unitBytes 12 0 0 500 100 40 0 0 0 0 ∷ []))
+    ∷ heats rules (sheet 4 0 50 0 0 30 0 900 10000 (first 0) (unitBytes 11 0 0 1000 100 10 0 0 0 0 ∷ unitBytes 12 0 0 500 100 40 0 0 0 0 ∷ []))
     gives numbers (300 ∷ 600 ∷ [])
     -- Model 5, all read: C 800 of EG 1,000. H by six readings is 1,150, y 20; class 1 alone, by litres 3 and 2.
-    ∷ answer (sheet 5 3 0 0 20 30 0 2150 100000 six (unitBytes 11 0 1 1000 100 0 0 300 3 1 ∷ unitBytes 12 0 1 1000 300 0 0 500 2 1 ∷ []))
+    ∷ answer rules (sheet 5 3 0 0 20 30 0 2150 100000 six (unitBytes 11 0 1 1000 100 0 0 300 3 1 ∷ unitBytes 12 0 1 1000 300 0 0 500 2 1 ∷ []))
     gives settles 215 (300 ∷ 50 ∷ 552 ∷ 115 ∷ 30 ∷ 5 ∷ 55 ∷ 12 ∷ 500 ∷ 150 ∷ 368 ∷ 115 ∷ 50 ∷ 15 ∷ 37 ∷ 11 ∷ [])
     -- Model 5, unit 13 in status 4 with KF 500: three eighths of 800,000; the rest by b, whatever KF.
-    ∷ answer (sheet 5 0 0 20 0 30 0 1000000 10000 (first 0) (heated 11 0 500 500 100000 ∷ heated 12 0 1000 1000 300000 ∷ heated 13 4 500 500 0 ∷ []))
+    ∷ answer rules (sheet 5 0 0 20 0 30 0 1000000 10000 (first 0) (heated 11 0 500 500 100000 ∷ heated 12 0 1000 1000 300000 ∷ heated 13 4 500 500 0 ∷ []))
     gives settles 10000 (
     125000 ∷ 50000 ∷ 0 ∷ 0 ∷ 1250 ∷ 500 ∷ 0 ∷ 0
     ∷ 375000 ∷ 100000 ∷ 0 ∷ 0 ∷ 3750 ∷ 1000 ∷ 0 ∷ 0
@@ -215,59 +214,85 @@ casesByHand =
     ∷ []
     )
     -- Model 5, unit 13 without a device: three quarters of 800,000 by f 30, five eighths by f 25; the rest by b. 36 is out of f's range.
-    ∷ heats (partlyMetered 30) gives numbers (50000 ∷ 150000 ∷ 600000 ∷ [])
-    ∷ heats (partlyMetered 25) gives numbers (75000 ∷ 225000 ∷ 500000 ∷ [])
-    ∷ heats (partlyMetered 36) gives refuses 4 0
+    ∷ heats rules (partlyMetered 30) gives numbers (50000 ∷ 150000 ∷ 600000 ∷ [])
+    ∷ heats rules (partlyMetered 25) gives numbers (75000 ∷ 225000 ∷ 500000 ∷ [])
+    ∷ heats rules (partlyMetered 36) gives refuses 4 0
     -- Model 5, B = 0, unit 13 in status 2: a third of 900 by its p; the rest by p × KF.
-    ∷ heats (sheet 5 0 0 0 0 30 0 900 10000 (first 0) (heated 11 0 1000 100 0 ∷ heated 12 0 500 100 0 ∷ heated 13 2 1000 100 0 ∷ [])) gives numbers (400 ∷ 200 ∷ 300 ∷ [])
+    ∷ heats rules (sheet 5 0 0 0 0 30 0 900 10000 (first 0) (heated 11 0 1000 100 0 ∷ heated 12 0 500 100 0 ∷ heated 13 2 1000 100 0 ∷ [])) gives numbers (400 ∷ 200 ∷ 300 ∷ [])
     -- No bytes.
-    ∷ answer [] gives refuses 1 0
+    ∷ answer rules [] gives refuses 1 0
     -- 8: H 1,001 of M 1,000; 1,000 passes.
-    ∷ answer (sheet 2 1 0 0 0 0 0 1000 10000 (first 1001) (unitBytes 11 0 1 1000 100 0 0 0 5 1 ∷ [])) gives refuses 8 0
-    ∷ answer (sheet 2 1 0 0 0 0 0 1000 10000 (first 1000) (unitBytes 11 0 1 1000 100 0 0 0 5 1 ∷ [])) gives settles 10 (0 ∷ 0 ∷ 1000 ∷ 0 ∷ 0 ∷ 0 ∷ 10 ∷ 0 ∷ [])
+    ∷ answer rules (sheet 2 1 0 0 0 0 0 1000 10000 (first 1001) (unitBytes 11 0 1 1000 100 0 0 0 5 1 ∷ [])) gives refuses 8 0
+    ∷ answer rules (sheet 2 1 0 0 0 0 0 1000 10000 (first 1000) (unitBytes 11 0 1 1000 100 0 0 0 5 1 ∷ [])) gives settles 10 (0 ∷ 0 ∷ 1000 ∷ 0 ∷ 0 ∷ 0 ∷ 10 ∷ 0 ∷ [])
     -- 9: n1 + n2 = 0; L = 0; N2 = 0; y > 0 and no persons; model 1 with all q 0; model 4 with S = 0.
-    ∷ answer (waterSheet 0 (unitBytes 11 0 0 1000 100 0 0 0 0 0 ∷ [])) gives refuses 9 0
-    ∷ answer (waterSheet 0 (unitBytes 11 0 1 1000 100 0 0 0 0 1 ∷ [])) gives refuses 9 0
-    ∷ answer (waterSheet 0 (unitBytes 11 0 2 1000 100 0 0 0 0 0 ∷ [])) gives refuses 9 0
-    ∷ answer (waterSheet 20 (unitBytes 11 0 1 1000 100 0 0 0 5 0 ∷ [])) gives refuses 9 0
-    ∷ answer (sheet 1 0 0 0 0 0 0 1000 10000 (first 0) (unitBytes 11 0 0 1000 100 0 0 0 0 0 ∷ [])) gives refuses 9 0
-    ∷ answer (sheet 4 0 50 0 0 30 0 1000 10000 (first 0) (unitBytes 11 0 0 1000 100 0 0 30 0 0 ∷ [])) gives refuses 9 0
+    ∷ answer rules (waterSheet 0 (unitBytes 11 0 0 1000 100 0 0 0 0 0 ∷ [])) gives refuses 9 0
+    ∷ answer rules (waterSheet 0 (unitBytes 11 0 1 1000 100 0 0 0 0 1 ∷ [])) gives refuses 9 0
+    ∷ answer rules (waterSheet 0 (unitBytes 11 0 2 1000 100 0 0 0 0 0 ∷ [])) gives refuses 9 0
+    ∷ answer rules (waterSheet 20 (unitBytes 11 0 1 1000 100 0 0 0 5 0 ∷ [])) gives refuses 9 0
+    ∷ answer rules (sheet 1 0 0 0 0 0 0 1000 10000 (first 0) (unitBytes 11 0 0 1000 100 0 0 0 0 0 ∷ [])) gives refuses 9 0
+    ∷ answer rules (sheet 4 0 50 0 0 30 0 1000 10000 (first 0) (unitBytes 11 0 0 1000 100 0 0 30 0 0 ∷ [])) gives refuses 9 0
     -- The last three where nothing is to be divided: of H 1 by y 20 no common water is left; M 0.
-    ∷ answer (sheet 2 1 0 0 20 0 0 1 10000 (first 1) (unitBytes 11 0 1 1000 100 0 0 0 5 0 ∷ [])) gives refuses 9 0
-    ∷ answer (sheet 1 0 0 0 0 0 0 0 10000 (first 0) (unitBytes 11 0 0 1000 100 0 0 0 0 0 ∷ [])) gives refuses 9 0
-    ∷ answer (sheet 4 0 50 0 0 30 0 0 10000 (first 0) (unitBytes 11 0 0 1000 100 0 0 30 0 0 ∷ [])) gives refuses 9 0
+    ∷ answer rules (sheet 2 1 0 0 20 0 0 1 10000 (first 1) (unitBytes 11 0 1 1000 100 0 0 0 5 0 ∷ [])) gives refuses 9 0
+    ∷ answer rules (sheet 1 0 0 0 0 0 0 0 10000 (first 0) (unitBytes 11 0 0 1000 100 0 0 0 0 0 ∷ [])) gives refuses 9 0
+    ∷ answer rules (sheet 4 0 50 0 0 30 0 0 10000 (first 0) (unitBytes 11 0 0 1000 100 0 0 30 0 0 ∷ [])) gives refuses 9 0
     -- L = 0 and N2 = 0 beside the other class. With y 0 and no persons, and with H 0 and n1 + n2 = 0, all heat is unit 11's.
-    ∷ answer (waterSheet 0 (unitBytes 11 0 1 1000 100 0 0 0 0 1 ∷ unitBytes 12 0 2 1000 100 0 0 0 0 1 ∷ [])) gives refuses 9 0
-    ∷ answer (waterSheet 0 (unitBytes 11 0 1 1000 100 0 0 0 5 1 ∷ unitBytes 12 0 2 1000 100 0 0 0 0 0 ∷ [])) gives refuses 9 0
-    ∷ heats (waterSheet 0 (unitBytes 11 0 1 1000 100 0 0 0 5 0 ∷ [])) gives numbers (400 ∷ [])
-    ∷ heats (sheet 2 1 0 0 20 0 0 1000 10000 (first 0) (heated 11 0 1000 100 0 ∷ [])) gives numbers (1000 ∷ [])
+    ∷ answer rules (waterSheet 0 (unitBytes 11 0 1 1000 100 0 0 0 0 1 ∷ unitBytes 12 0 2 1000 100 0 0 0 0 1 ∷ [])) gives refuses 9 0
+    ∷ answer rules (waterSheet 0 (unitBytes 11 0 1 1000 100 0 0 0 5 1 ∷ unitBytes 12 0 2 1000 100 0 0 0 0 0 ∷ [])) gives refuses 9 0
+    ∷ heats rules (waterSheet 0 (unitBytes 11 0 1 1000 100 0 0 0 5 0 ∷ [])) gives numbers (400 ∷ [])
+    ∷ heats rules (sheet 2 1 0 0 20 0 0 1000 10000 (first 0) (heated 11 0 1000 100 0 ∷ [])) gives numbers (1000 ∷ [])
     -- 10: nobody read, in models 3 and 5.
-    ∷ answer (sheetA 30 (heated 11 2 1000 500 0 ∷ [])) gives refuses 10 0
-    ∷ answer (sheet 5 0 0 0 0 30 0 1000 10000 (first 0) (heated 11 2 1000 500 0 ∷ [])) gives refuses 10 0
+    ∷ answer rules (sheetA 30 (heated 11 2 1000 500 0 ∷ [])) gives refuses 10 0
+    ∷ answer rules (sheet 5 0 0 0 0 30 0 1000 10000 (first 0) (heated 11 2 1000 500 0 ∷ [])) gives refuses 10 0
     -- 11: H by case I is 82, exactly 81.54; so of M 182 a C of 100 passes, 101 does not.
-    ∷ heats (sheet 5 2 0 0 0 30 51 182 10000 (first 1) (unitBytes 11 0 1 1000 100 0 0 100 1 1 ∷ [])) gives numbers (100 ∷ [])
-    ∷ answer (sheet 5 2 0 0 0 30 51 182 10000 (first 1) (unitBytes 11 0 1 1000 100 0 0 101 1 1 ∷ [])) gives refuses 11 0
+    ∷ heats rules (sheet 5 2 0 0 0 30 51 182 10000 (first 1) (unitBytes 11 0 1 1000 100 0 0 100 1 1 ∷ [])) gives numbers (100 ∷ [])
+    ∷ answer rules (sheet 5 2 0 0 0 30 51 182 10000 (first 1) (unitBytes 11 0 1 1000 100 0 0 101 1 1 ∷ [])) gives refuses 11 0
     -- 12: F with M 0, so EG 0; F in models 4 and 5.
-    ∷ answer (sheet 3 0 30 20 0 31 0 0 10000 (first 0) unitsE) gives refuses 12 0
-    ∷ answer (sheet 4 0 30 20 0 31 0 1000000 10000 (first 0) (unitBytes 11 1 0 1000 500 10 0 0 0 0 ∷ unitBytes 12 0 0 1000 1000 10 0 300 0 0 ∷ [])) gives refuses 12 0
-    ∷ answer (sheet 5 0 0 20 0 31 0 1000000 10000 (first 0) unitsE) gives refuses 12 0
+    ∷ answer rules (sheet 3 0 30 20 0 31 0 0 10000 (first 0) unitsE) gives refuses 12 0
+    ∷ answer rules (sheet 4 0 30 20 0 31 0 1000000 10000 (first 0) (unitBytes 11 1 0 1000 500 10 0 0 0 0 ∷ unitBytes 12 0 0 1000 1000 10 0 300 0 0 ∷ [])) gives refuses 12 0
+    ∷ answer rules (sheet 5 0 0 20 0 31 0 1000000 10000 (first 0) unitsE) gives refuses 12 0
     -- Several faults, the lowest decides. One unit without a device, f 31: 8, 9, 10, 12 in model 4 with H 1,001 of M 1,000; 9, 10, 12 without hot water; 10, 12 in model 3.
-    ∷ answer (sheet 4 1 50 0 0 31 0 1000 10000 (first 1001) (unitBytes 11 1 0 1000 100 10 0 0 0 0 ∷ [])) gives refuses 8 0
-    ∷ answer (sheet 4 0 50 0 0 31 0 1000 10000 (first 0) (unitBytes 11 1 0 1000 100 10 0 0 0 0 ∷ [])) gives refuses 9 0
-    ∷ answer (sheet 3 0 30 0 0 31 0 1000 10000 (first 0) (unitBytes 11 1 0 1000 100 10 0 0 0 0 ∷ [])) gives refuses 10 0
+    ∷ answer rules (sheet 4 1 50 0 0 31 0 1000 10000 (first 1001) (unitBytes 11 1 0 1000 100 10 0 0 0 0 ∷ [])) gives refuses 8 0
+    ∷ answer rules (sheet 4 0 50 0 0 31 0 1000 10000 (first 0) (unitBytes 11 1 0 1000 100 10 0 0 0 0 ∷ [])) gives refuses 9 0
+    ∷ answer rules (sheet 3 0 30 0 0 31 0 1000 10000 (first 0) (unitBytes 11 1 0 1000 100 10 0 0 0 0 ∷ [])) gives refuses 10 0
     -- One unit of model 5, read, C 101, n1 + n2 = 0: 8, 9, 11 with H 1,001; 9, 11 with H 900.
-    ∷ answer (sheet 5 1 0 0 0 30 0 1000 10000 (first 1001) (heated 11 0 1000 100 101 ∷ [])) gives refuses 8 0
-    ∷ answer (sheet 5 1 0 0 0 30 0 1000 10000 (first 900) (heated 11 0 1000 100 101 ∷ [])) gives refuses 9 0
+    ∷ answer rules (sheet 5 1 0 0 0 30 0 1000 10000 (first 1001) (heated 11 0 1000 100 101 ∷ [])) gives refuses 8 0
+    ∷ answer rules (sheet 5 1 0 0 0 30 0 1000 10000 (first 900) (heated 11 0 1000 100 101 ∷ [])) gives refuses 9 0
     ∷ []
 
-pub cases : List Case
-cases = casesAtoL ++ casesByHand
+-- model 4, v 30, s of the first unit as given and 50, 100, with b 1,000, 0, 0: case C by risers
+unfoldable pub risersC : (surface factor : ℕ) → List ℕ
+risersC surface factor = sheet 4 0 30 20 0 30 0 1000000 10000 (first 0) (unitBytes 11 0 0 factor 500 surface 0 1000 0 0 ∷ unitBytes 12 0 0 1000 500 50 0 0 0 0 ∷ unitBytes 13 0 0 1000 1000 100 0 0 0 0 ∷ [])
 
-pub all-cases : map given cases ≡ map expected cases
-unfolding cases casesAtoL casesByHand
+-- model 4, v 10, unit 11 without a device: three quarters of 3,200 by its p
+oneUnread : List ℕ
+oneUnread = sheet 4 0 10 0 0 30 0 3200 10000 (first 0) (unitBytes 11 1 0 1000 100 40 0 0 0 0 ∷ unitBytes 12 0 0 1000 100 10 0 0 0 0 ∷ unitBytes 13 0 0 1000 100 20 0 20 0 0 ∷ unitBytes 14 0 0 1000 100 10 0 20 0 0 ∷ [])
+
+-- by the limits of model 4 (2026-01) and without them
+casesByRules : List Case
+casesByRules =
+    -- S 200, B 1,000: r 15.5, 1.5, 3 millions; limited 15, 2, 4.
+    heats Version1 (risersC 50 1000) gives numbers (620000 ∷ 60000 ∷ 120000 ∷ [])
+    ∷ heats Version2 (risersC 50 1000) gives numbers (571429 ∷ 76190 ∷ 152381 ∷ [])
+    -- The first s 0, S 150: r 10.5, 1.5, 3 millions; the first keeps it, the others are raised to 2 and 4.
+    ∷ heats Version1 (risersC 0 1000) gives numbers (560000 ∷ 80000 ∷ 160000 ∷ [])
+    ∷ heats Version2 (risersC 0 1000) gives numbers (509091 ∷ 96970 ∷ 193939 ∷ [])
+    -- KF 500 of the first, after the limits: 7.75, 1.5, 3 and 7.5, 2, 4.
+    ∷ heats Version1 (risersC 50 500) gives numbers (506123 ∷ 97959 ∷ 195918 ∷ [])
+    ∷ heats Version2 (risersC 50 500) gives numbers (444444 ∷ 118519 ∷ 237037 ∷ [])
+    -- S 40, B 40: r 4,000, 80,000, 76,000, the first raised to 16,000.
+    ∷ heats Version1 oneUnread gives numbers (2400 ∷ 20 ∷ 400 ∷ 380 ∷ [])
+    ∷ heats Version2 oneUnread gives numbers (2400 ∷ 74 ∷ 372 ∷ 354 ∷ [])
+    ∷ []
+
+pub cases : RuleSet → List Case
+cases rules = casesAtoL rules ++ (casesByHand rules ++ casesByRules)
+
+pub all-cases : (rules : RuleSet) → map given (cases rules) ≡ map expected (cases rules)
+unfolding cases casesAtoL casesByHand casesByRules risersC oneUnread
     unitBytes joined sheetBytes inBytes unitsD unitsE lastTheRest partlyMetered waterSheet everyEighth whole answer monthA heats pool hotWaterOf billOf
     sharesBy all any firstRefusal unitRow rows sheetOf headerTests rowTests rowRules sheetRules
     allMetered meteredSum hasPool totalArea unreadWeight unreadWeights poolWeight readingSum readArea readSurface areaWeight surfaceWeight readWeight readWeights unitsOfClass litresOfClass1 personsOfClass2 waterWeight
     splitBy inUnitOrder unitByUnit hotWater spaceHeat heatParts poolShares readShares heat commonHeat waterParts water commonWater energies
     hotWaterWh spaceHeatWh zeroWaterDivisor zeroDivisor monthRules billCents costs fourAndFour statementOf monthOf settleRules settledSheet
-all-cases = refl
+all-cases Version1 = refl
+all-cases Version2 = refl

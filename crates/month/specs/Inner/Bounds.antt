@@ -3,6 +3,7 @@ use mathlib.Core.Path.{_≡_}
 use mathlib.Core.List.{[], _∷_, _++_, map}
 use Prim.Native.Nat.{ℕ, _+_, _*_, _≤_}
 use Rattle.apportion.specs.Shares.{sum}
+use Rattle.sheet.specs.declared.rule_set.RuleSet.{RuleSet}
 use Rattle.sheet.specs.Layout.{Sheet, waterReading}
 use Rattle.month.specs.Weights.{sumOf, meteredSum, totalArea, unreadWeights, poolWeight, readingSum, readSurface, readWeights, unitsOfClass, litresOfClass1, personsOfClass2, waterWeight, commonWaterWeight}
 use Rattle.month.specs.Month.{billCents}
@@ -25,8 +26,8 @@ pub record SumBounds (s : Sheet) : Type 0 where
   pub bill : billCents s ≤ 400000000
 
 -- the sums of weights of such a sheet
-pub record WeightBounds (s : Sheet) : Type 0 where
+pub record WeightBounds (rules : RuleSet) (s : Sheet) : Type 0 where
   pub unread : sum (unreadWeights s) ≤ 56000000000
   pub pool : sum (unreadWeights s ++ poolWeight s ∷ []) ≤ 56000000000
-  pub read : sum (readWeights s) ≤ 3840000000000000000
+  pub read : sum (readWeights rules s) ≤ 3840000000000000000
   pub water : sum (map (waterWeight s) (s .units)) ≤ 204800000000000

@@ -1,0 +1,19 @@
+-- The rules by which a month is settled, by archive version (document 02): a record is read by the rules of its own time. Each property is given by case.
+use mathlib.Core.Bool.{Bool, true, false}
+use Prim.Native.Nat.{ℕ}
+use Rattle.sheet.specs.declared.rule_set.RuleSet.{RuleSet}
+use Rattle.sheet.specs.declared.rule_set.RuleSet.the-variants.{Version1, Version2}
+
+-- the number in a record's head
+abbrev pub archiveVersion : RuleSet → ℕ
+archiveVersion Version1 = 1  -- document 01
+archiveVersion Version2 = 2  -- from 2026-01 on
+
+-- step 4 limits r of model 4 (2026-01)
+abbrev pub limitsRisers : RuleSet → Bool
+limitsRisers Version1 = false
+limitsRisers Version2 = true
+
+-- new records, statements, year books and prints go by these
+abbrev pub newest : RuleSet
+newest = Version2
