@@ -7,8 +7,8 @@ ghost use Rattle.sheet.specs.Layout.{sheetOf};
 ghost use Rattle.sheet.specs.Inner.Fields.{unitOf};
 ghost use Rattle.weights.specs.Inner.By.{takesPart, weightOf, weightsBy};
 ghost use Rattle.weights.specs.Inner.Ready.{RowReady, Ready};
+use crate::basis::Basis;
 use crate::fields::field;
-use crate::totals::Totals;
 use crate::units;
 use sheet::rows;
 
@@ -22,16 +22,16 @@ pub enum By {
     Persons,
 }
 
-fn weight(s: &[u8], i: usize, by: By, t: Totals) -> u64
-    requires { ⌜ RowReady (now s) i × Ready (now s) t ⌝ }
-    ensures { λ r. ⌜ r ≡ weightOf by (sheetOf (now (s .entry))) (unitOf (sheetOf (now (s .entry))) i) ⌝ }
+fn weight(s: &[u8], i: usize, by: By, b: Basis) -> u64
+    requires { ⌜ RowReady (now s) i × Ready (now s) (b .totals) ⌝ }
+    ensures { λ r. ⌜ r ≡ weightOf (b .rules) by (sheetOf (now (s .entry))) (unitOf (sheetOf (now (s .entry))) i) ⌝ }
 {
     match by {
         By::Load => field(s, i, rows::HEAT_LOAD),
         By::Area => field(s, i, rows::HEATED_AREA),
         By::Unread => units::unread_weight(s, i),
-        By::Read => units::read_weight(s, i, t),
-        By::Water => units::water_weight(s, i, t),
+        By::Read => units::read_weight(s, i, b),
+        By::Water => units::water_weight(s, i, b.totals),
         By::Persons => units::common_water_weight(s, i),
     }
 }
@@ -58,13 +58,13 @@ fn part(s: &[u8], i: usize, by: By) -> usize
 }
 
 // Writes the weights one after the other; returns how many there are.
-pub fn gather(s: &[u8], n: usize, by: By, t: Totals, out: &mut [u64]) -> usize
-    requires { ⌜ Ready (now s) t × (n ≡ sheetOf (now s) .unitCount) × (length (now out) ≡ 160) ⌝ }
-    ensures { λ r. ⌜ (r ≤ n) × (take r (now (out .exit)) ≡ weightsBy by (sheetOf (now (s .entry)))) ⌝ }
+pub fn gather(s: &[u8], b: Basis, by: By, out: &mut [u64]) -> usize
+    requires { ⌜ Ready (now s) (b .totals) × (b .units ≡ sheetOf (now s) .unitCount) × (length (now out) ≡ 160) ⌝ }
+    ensures { λ r. ⌜ (r ≤ b .units) × (take r (now (out .exit)) ≡ weightsBy (b .rules) by (sheetOf (now (s .entry)))) ⌝ }
 {
     let mut m: usize = 0;
-    for i in 0..n {
-        out[m] = weight(s, i, by, t);
+    for i in 0..b.units {
+        out[m] = weight(s, i, by, b);
         m += part(s, i, by);
     }
     m

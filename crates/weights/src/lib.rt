@@ -1,4 +1,5 @@
 // What the steps of a month take from the sheet (document 01, "Steps of a month"): sums, hot water, weights, and refusals 8 to 12.
+mod basis;
 mod fields;
 pub mod gather;
 pub mod hot_water;
@@ -7,6 +8,7 @@ mod refusals;
 mod totals;
 mod units;
 
+pub use basis::Basis;
 pub use fields::head;
 pub use fields::wide;
 pub use metered::all_metered;

@@ -1,20 +1,24 @@
 // The weight of a unit in each division (document 01, steps 3, 4 and 6).
 ghost use mathlib.Core.Path.{_≡_};
-ghost use mathlib.Core.Bool.{_||_};
+ghost use mathlib.Core.Bool.{_&&_, _||_};
 ghost use Prim.Native.Nat.{_+_, _*_, _-_, _≤_};
-ghost use lib.Dec.{eqb};
+ghost use lib.Dec.{ltb, eqb};
 ghost use Rattle.sheet.specs.Tests.{if_then_else_};
+ghost use Rattle.sheet.specs.RuleSets.{limitsRisers};
 ghost use Rattle.sheet.specs.Layout.{sheetOf};
 ghost use Rattle.sheet.specs.Inner.Fields.{unitOf};
 ghost use Rattle.month.specs.Weights.{limited, areaWeight, surfaceWeight, readWeight, unreadWeight, waterWeight, commonWaterWeight};
 ghost use Rattle.weights.specs.Inner.Ready.{RowReady, Ready};
+use crate::basis::Basis;
 use crate::fields::field;
 use crate::fields::head;
 use crate::totals::Totals;
 use crate::totals::only_if;
 use apportion::larger;
 use apportion::smaller;
+use sheet::RuleSet;
 use sheet::header;
+use sheet::limits_risers;
 use sheet::rows;
 
 // Status 1 or 4: the factor for unmetered units applies.
@@ -44,7 +48,7 @@ fn mixed(v: u64, x: u64, a: u64, y: u64, b: u64) -> u64
     (100 - v) * x * a + v * y * b
 }
 
-// Article 8 (6), (7).
+// Articles 8 (6), (7) and 9 (6), (7).
 fn limit(base: u64, r: u64) -> u64
     requires { ⌜ (base ≤ 80000000000) × (r ≤ 16000000000000) ⌝ }
     ensures { λ o. ⌜ (o ≡ limited base r) × (o ≤ 24000000000000) ⌝ }
@@ -64,15 +68,37 @@ fn area_weight(s: &[u8], i: usize, t: Totals) -> u64
     limit(p * t.readings, r) * k
 }
 
-// Step 4, model 4.
-fn surface_weight(s: &[u8], i: usize, t: Totals) -> u64
-    requires { ⌜ RowReady (now s) i × Ready (now s) t × (sheetOf (now s) .model ≤ 4) ⌝ }
-    ensures { λ r. ⌜ r ≡ surfaceWeight (sheetOf (now (s .entry))) (unitOf (sheetOf (now (s .entry))) i) ⌝ }
+// Step 4, model 4 (2026-01): r where the rules limit it; a unit without riser surface keeps its r.
+fn limit_risers(rules: RuleSet, surface: u64, base: u64, r: u64) -> u64
+    requires { ⌜ (base ≤ 80000000000) × (r ≤ 16000000000000) ⌝ }
+    ensures { λ o. ⌜ (o ≡ (if limitsRisers rules && ltb 0 surface then limited base r else r)) × (o ≤ 24000000000000) ⌝ }
 {
+    if !limits_risers(rules) {
+        return r;
+    }
+    if surface == 0 {
+        return r;
+    }
+    limit(base, r)
+}
+
+// Step 4, model 4.
+fn surface_weight(s: &[u8], i: usize, b: Basis) -> u64
+    requires { ⌜ RowReady (now s) i × Ready (now s) (b .totals) × (sheetOf (now s) .model ≤ 4) ⌝ }
+    ensures { λ r. ⌜ r ≡ surfaceWeight (b .rules) (sheetOf (now (s .entry))) (unitOf (sheetOf (now (s .entry))) i) ⌝ }
+{
+    let rules = b.rules;
     let v = head(s, header::BASE_PERCENT);
-    let area = field(s, i, rows::RISER_SURFACE);
-    mixed(v, field(s, i, rows::READING), t.surface, area, t.readings)
-        * field(s, i, rows::LOCATION_FACTOR)
+    let surface = field(s, i, rows::RISER_SURFACE);
+    let k = field(s, i, rows::LOCATION_FACTOR);
+    let r = mixed(
+        v,
+        field(s, i, rows::READING),
+        b.totals.surface,
+        surface,
+        b.totals.readings,
+    );
+    limit_risers(rules, surface, surface * b.totals.readings, r) * k
 }
 
 // Step 4 without any reading: a field × KF.
@@ -84,22 +110,22 @@ fn by_factor(s: &[u8], i: usize, x: u64) -> u64
 }
 
 // Step 4.
-pub fn read_weight(s: &[u8], i: usize, t: Totals) -> u64
-    requires { ⌜ RowReady (now s) i × Ready (now s) t ⌝ }
-    ensures { λ r. ⌜ r ≡ readWeight (sheetOf (now (s .entry))) (unitOf (sheetOf (now (s .entry))) i) ⌝ }
+pub fn read_weight(s: &[u8], i: usize, b: Basis) -> u64
+    requires { ⌜ RowReady (now s) i × Ready (now s) (b .totals) ⌝ }
+    ensures { λ r. ⌜ r ≡ readWeight (b .rules) (sheetOf (now (s .entry))) (unitOf (sheetOf (now (s .entry))) i) ⌝ }
 {
     let model = head(s, header::MODEL);
-    if t.readings == 0 {
+    if b.totals.readings == 0 {
         if model == 4 {
             return by_factor(s, i, field(s, i, rows::RISER_SURFACE));
         }
         return by_factor(s, i, field(s, i, rows::HEATED_AREA));
     }
     if model == 3 {
-        return area_weight(s, i, t);
+        return area_weight(s, i, b.totals);
     }
     if model == 4 {
-        return surface_weight(s, i, t);
+        return surface_weight(s, i, b);
     }
     field(s, i, rows::READING)
 }

@@ -2,6 +2,7 @@
 use mathlib.Core.Bool.{Bool, true, not}
 use mathlib.Core.List.{List, map}
 use Prim.Native.Nat.{ℕ}
+use Rattle.sheet.specs.declared.rule_set.RuleSet.{RuleSet}
 use Rattle.sheet.specs.Layout.{UnitRow, Sheet}
 use Rattle.month.specs.Weights.{those, isRead, unreadWeight, readWeight, waterWeight, commonWaterWeight}
 use Rattle.weights.specs.declared.gather.By.{By}
@@ -15,13 +16,13 @@ takesPart Read u = isRead u
 takesPart Water u = true
 takesPart Persons u = true
 
-abbrev pub weightOf : By → Sheet → UnitRow → ℕ
-weightOf Load s u = u .heatLoad
-weightOf Area s u = u .heatedArea
-weightOf Unread s u = unreadWeight s u
-weightOf Read s u = readWeight s u
-weightOf Water s u = waterWeight s u
-weightOf Persons s u = commonWaterWeight u
+abbrev pub weightOf : RuleSet → By → Sheet → UnitRow → ℕ
+weightOf rules Load s u = u .heatLoad
+weightOf rules Area s u = u .heatedArea
+weightOf rules Unread s u = unreadWeight s u
+weightOf rules Read s u = readWeight rules s u
+weightOf rules Water s u = waterWeight s u
+weightOf rules Persons s u = commonWaterWeight u
 
-unfoldable pub weightsBy : By → Sheet → List ℕ
-weightsBy by s = map (weightOf by s) (those (takesPart by) (s .units))
+unfoldable pub weightsBy : RuleSet → By → Sheet → List ℕ
+weightsBy rules by s = map (weightOf rules by s) (those (takesPart by) (s .units))

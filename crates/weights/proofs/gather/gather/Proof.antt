@@ -13,10 +13,10 @@ use Rattle.weights.proofs.gather.gather.Statement.{statement}
 use Rattle.weights.proofs.gather.gather.Tie as tie
 
 abbrev Inv-loop : tie.InvT-loop
-Inv-loop s n by t out₀ m₀ i₀ out m i = (i ≤ n) × ((m ≤ i) × ((length out ≡ 160) × (take m out ≡ chosen (takesPart by) (weightOf by (sheetOf s)) (take i (sheetOf s .units)))))
+Inv-loop s b by out₀ m₀ i₀ i-end out m i = (i ≤ b .units) × ((m ≤ i) × ((length out ≡ 160) × (take m out ≡ chosen (takesPart by) (weightOf (b .rules) by (sheetOf s)) (take i (sheetOf s .units)))))
 
 abbrev μ-loop : tie.MeasureT-loop
-μ-loop s n by t out₀ m₀ i₀ out m i = n - i
+μ-loop s b by out₀ m₀ i₀ i-end out m i = b .units - i
 
 loop-holds : tie.Need-loop-holds Inv-loop μ-loop
 loop-holds c = (omega arith, (omega arith, (search needs, refl)))
@@ -53,7 +53,7 @@ loop-again c =
         omega (arith, c .part .ensures, bit-le (takesPart (a .by) u)),
         (
           simp length-set (l .inv .1 .1 .0),
-          turn-row (takesPart (a .by)) (weightOf (a .by) (sheetOf (a .s .now))) (a .s .now) (l .out) (l .i) (l .m) (c .before .weight .result) (c .part .result) (omega arith)
+          turn-row (takesPart (a .by)) (weightOf (a .b .rules) (a .by) (sheetOf (a .s .now))) (a .s .now) (l .out) (l .i) (l .m) (c .before .weight .result) (c .part .result) (omega arith)
               (omega (arith, st .pre .0 .fits .header .unitCount)) (c .before .weight .ensures) (c .part .ensures) (l .inv .1 .1 .1),
         ),
       ),
@@ -69,7 +69,7 @@ returns c =
     let s = sheetOf (st .args .s .now) in
     let by = st .args .by in
     let l = c .before .loop in
-    (omega arith, l .inv .1 .1 .1 ∙ ap (chosen (takesPart by) (weightOf by s)) (take-all (l .i) (s .units) (omega (arith, st .pre .0 .fits .unitsLength))))
+    (omega arith, l .inv .1 .1 .1 ∙ ap (chosen (takesPart by) (weightOf (st .args .b .rules) by s)) (take-all (l .i) (s .units) (omega (arith, st .pre .0 .fits .unitsLength))))
 
 pub gather-spec : {M : Type 1} → statement M
 gather-spec =
