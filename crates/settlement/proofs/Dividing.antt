@@ -8,6 +8,7 @@ use borrow.Author.Tests.{eq-eqb, ne-eqb}
 use lib.ListN.{length, take, length-map, replicate}
 use Rattle.apportion.specs.Shares.{sum, remainder, shares}
 use Rattle.apportion.proofs.Laws.{shares-none}
+use Rattle.sheet.specs.declared.rule_set.RuleSet.{RuleSet}
 use Rattle.sheet.specs.Layout.{UnitRow, Sheet, sheetOf}
 use Rattle.month.specs.Weights.{those, allMetered, totalArea, unreadWeights, readWeights}
 use Rattle.month.specs.Steps.{wholeWh, heat, commonHeat, waterParts, water, commonWater}
@@ -20,7 +21,7 @@ use Rattle.weights.specs.Inner.By.{takesPart, weightOf, weightsBy}
 use Rattle.weights.specs.Inner.Ready.{Accepts}
 use Rattle.weights.specs.declared.gather.By.{By}
 use Rattle.weights.specs.declared.gather.By.the-variants.{Load, Area, Unread, Read, Water, Persons}
-use Rattle.weights.specs.declared.totals.Totals.{Totals}
+use Rattle.weights.specs.declared.basis.Basis.{Basis}
 use Rattle.settlement.specs.Inner.Division.{Divides, Shared}
 use Rattle.settlement.proofs.Parts.{front-untouched}
 
@@ -32,77 +33,80 @@ those-all (u ∷ us) = ap (λ (r : List UnitRow). u ∷ r) (those-all us)
 abbrev All : By → Type 0
 All by = takesPart by ≡ (λ (u : UnitRow). true)
 
-of-all : (s : Sheet) (by : By) → All by → weightsBy by s ≡ map (weightOf by s) (s .units)
+of-all : (rules : RuleSet) (s : Sheet) (by : By) → All by → weightsBy rules by s ≡ map (weightOf rules by s) (s .units)
 unfolding weightsBy
-of-all s by all = rw (all, those-all)
+of-all rules s by all = rw (all, those-all)
 
 -- EVERY DIVISION'S WEIGHTS FIT
-pub weights-fit : (s : Sheet) → CheckedSheet s → (by : By) → sum (weightsBy by s) < 2 ^ 62
+pub weights-fit : (rules : RuleSet) (s : Sheet) → CheckedSheet s → (by : By) → sum (weightsBy rules by s) < 2 ^ 62
 unfolding weightsBy totalArea unreadWeights readWeights
-weights-fit s c Load = rw those-all (omega (arith, sum-bounds s c .heat-loads))
-weights-fit s c Area = rw those-all (omega (arith, sum-bounds s c .total-area))
-weights-fit s c Unread = omega (arith, weight-bounds s c .unread)
-weights-fit s c Read = omega (arith, weight-bounds s c .read)
-weights-fit s c Water = rw those-all (omega (arith, weight-bounds s c .water))
-weights-fit s c Persons = rw those-all (omega (arith, sum-bounds s c .persons))
+weights-fit rules s c Load = rw those-all (omega (arith, sum-bounds s c .heat-loads))
+weights-fit rules s c Area = rw those-all (omega (arith, sum-bounds s c .total-area))
+weights-fit rules s c Unread = omega (arith, weight-bounds s c rules .unread)
+weights-fit rules s c Read = omega (arith, weight-bounds s c rules .read)
+weights-fit rules s c Water = rw those-all (omega (arith, weight-bounds s c rules .water))
+weights-fit rules s c Persons = rw those-all (omega (arith, sum-bounds s c .persons))
 
-module _ {bytes : List ℕ} {n : ℕ} {t : Totals} (a : Accepts bytes n t) where
+module _ {bytes : List ℕ} {b : Basis} (a : Accepts bytes b) where
   abbrev s : Sheet
   s = sheetOf bytes
 
+  abbrev rules : RuleSet
+  rules = b .rules
+
   -- ---- each division over all units can be made
-  divides : (by : By) → All by → (total : ℕ) → total ≤ 4000000000 → (sum (map (weightOf by s) (s .units)) ≡ 0 → total ≡ 0) → Divides total (weightsBy by s)
-  divides by all total h d = (omega arith, rw (of-all s by all) d)
+  divides : (by : By) → All by → (total : ℕ) → total ≤ 4000000000 → (sum (map (weightOf rules by s) (s .units)) ≡ 0 → total ≡ 0) → Divides total (weightsBy rules by s)
+  divides by all total h d = (omega arith, rw (of-all rules s by all) d)
 
-  pub load-heat : s .model ≡ 1 → Divides (units-heat s) (weightsBy Load s)
-  load-heat m = divides Load refl (units-heat s) (units-heat-le s (a .accepted)) (λ z. absurd (omega (arith, load-positive s (a .accepted) m)))
+  pub load-heat : s .model ≡ 1 → Divides (units-heat rules s) (weightsBy rules Load s)
+  load-heat m = divides Load refl (units-heat rules s) (units-heat-le rules s (a .accepted)) (λ z. absurd (omega (arith, load-positive s (a .accepted) m)))
 
-  by-area : (total : ℕ) → total ≤ 4000000000 → Divides total (weightsBy Area s)
+  by-area : (total : ℕ) → total ≤ 4000000000 → Divides total (weightsBy rules Area s)
   by-area total h = divides Area refl total h (λ z. absurd (omega (arith, area-positive s (a .accepted))))
 
-  pub area-heat : Divides (units-heat s) (weightsBy Area s)
-  area-heat = by-area (units-heat s) (units-heat-le s (a .accepted))
+  pub area-heat : Divides (units-heat rules s) (weightsBy rules Area s)
+  area-heat = by-area (units-heat rules s) (units-heat-le rules s (a .accepted))
 
-  pub area-common-heat : Divides (common-heat s) (weightsBy Area s)
-  area-common-heat = by-area (common-heat s) (common-heat-le s (a .accepted))
+  pub area-common-heat : Divides (common-heat rules s) (weightsBy rules Area s)
+  area-common-heat = by-area (common-heat rules s) (common-heat-le rules s (a .accepted))
 
-  pub weighed-water : Divides (waterParts wholeWh s .ofUnits) (weightsBy Water s)
-  weighed-water = divides Water refl (waterParts wholeWh s .ofUnits) (units-water-le s (a .accepted)) (water-divisible s (a .accepted))
+  pub weighed-water : Divides (waterParts wholeWh rules s .ofUnits) (weightsBy rules Water s)
+  weighed-water = divides Water refl (waterParts wholeWh rules s .ofUnits) (units-water-le rules s (a .accepted)) (water-divisible rules s (a .accepted))
 
-  pub persons-water : Divides (waterParts wholeWh s .common) (weightsBy Persons s)
-  persons-water = divides Persons refl (waterParts wholeWh s .common) (common-water-le s (a .accepted)) (common-water-divisible s (a .accepted))
+  pub persons-water : Divides (waterParts wholeWh rules s .common) (weightsBy rules Persons s)
+  persons-water = divides Persons refl (waterParts wholeWh rules s .common) (common-water-le rules s (a .accepted)) (common-water-divisible rules s (a .accepted))
 
   -- ---- nothing divided
-  pub zeros-shared : (by : By) {total : ℕ} {out : List ℕ} → total ≡ 0 → out ≡ replicate 160 0 → Shared total (weightsBy by s) out
+  pub zeros-shared : (by : By) {total : ℕ} {out : List ℕ} → total ≡ 0 → out ≡ replicate 160 0 → Shared total (weightsBy rules by s) out
   unfolding weightsBy
   zeros-shared by z e =
       let us = those (takesPart by) (s .units) in
-      let few : length (map (weightOf by s) us) ≤ 160 = omega (arith, length-map us (weightOf by s), those-fewer (takesPart by) (s .units), a .accepted .checked-sheet .unit-count, a .accepted .checked-sheet .header .unitCount) in
-      rw (z, e) (front-untouched _ 160 0 few ∙ sym (shares-none remainder (map (weightOf by s) us)))
+      let few : length (map (weightOf rules by s) us) ≤ 160 = omega (arith, length-map us (weightOf rules by s), those-fewer (takesPart by) (s .units), a .accepted .checked-sheet .unit-count, a .accepted .checked-sheet .header .unitCount) in
+      rw (z, e) (front-untouched _ 160 0 few ∙ sym (shares-none remainder (map (weightOf rules by s) us)))
 
   -- ---- what each gives: a number for each unit
   module _ {total : ℕ} (out : List ℕ) where
-    over-units : (by : By) → All by → {whole : ℕ} → total ≡ whole → Shared total (weightsBy by s) out → take n out ≡ shares whole (map (weightOf by s) (s .units))
+    over-units : (by : By) → All by → {whole : ℕ} → total ≡ whole → Shared total (weightsBy rules by s) out → take (b .units) out ≡ shares whole (map (weightOf rules by s) (s .units))
     over-units by all {whole} e g =
-        let k : length (weightsBy by s) ≡ n = ap length (of-all s by all) ∙ length-map (s .units) (weightOf by s) ∙ a .accepted .checked-sheet .unit-count ∙ sym (a .count) in
-        subst (λ (j : ℕ). take j out ≡ shares whole (map (weightOf by s) (s .units))) k (g ∙ rw (e, of-all s by all))
+        let k : length (weightsBy rules by s) ≡ b .units = ap length (of-all rules s by all) ∙ length-map (s .units) (weightOf rules by s) ∙ a .accepted .checked-sheet .unit-count ∙ sym (a .count) in
+        subst (λ (j : ℕ). take j out ≡ shares whole (map (weightOf rules by s) (s .units))) k (g ∙ rw (e, of-all rules s by all))
 
-    pub load-is : s .model ≡ 1 → total ≡ units-heat s → Shared total (weightsBy Load s) out → take n out ≡ heat wholeWh s
+    pub load-is : s .model ≡ 1 → total ≡ units-heat rules s → Shared total (weightsBy rules Load s) out → take (b .units) out ≡ heat wholeWh rules s
     unfolding heat allMetered
     load-is m e g = rw (ne-eqb (s .model) 5 (λ z. omega arith), eq-eqb (s .model) 1 m) (over-units Load refl e g)
 
-    pub area-is : s .model ≡ 2 → total ≡ units-heat s → Shared total (weightsBy Area s) out → take n out ≡ heat wholeWh s
+    pub area-is : s .model ≡ 2 → total ≡ units-heat rules s → Shared total (weightsBy rules Area s) out → take (b .units) out ≡ heat wholeWh rules s
     unfolding heat allMetered
     area-is m e g = rw (ne-eqb (s .model) 5 (λ z. omega arith), ne-eqb (s .model) 1 (λ z. omega arith), eq-eqb (s .model) 2 m) (over-units Area refl e g)
 
-    pub common-heat-is : total ≡ common-heat s → Shared total (weightsBy Area s) out → take n out ≡ commonHeat wholeWh s
+    pub common-heat-is : total ≡ common-heat rules s → Shared total (weightsBy rules Area s) out → take (b .units) out ≡ commonHeat wholeWh rules s
     unfolding commonHeat
     common-heat-is e g = over-units Area refl e g
 
-    pub water-is : total ≡ waterParts wholeWh s .ofUnits → Shared total (weightsBy Water s) out → take n out ≡ water wholeWh s
+    pub water-is : total ≡ waterParts wholeWh rules s .ofUnits → Shared total (weightsBy rules Water s) out → take (b .units) out ≡ water wholeWh rules s
     unfolding water
     water-is e g = over-units Water refl e g
 
-    pub common-water-is : total ≡ waterParts wholeWh s .common → Shared total (weightsBy Persons s) out → take n out ≡ commonWater wholeWh s
+    pub common-water-is : total ≡ waterParts wholeWh rules s .common → Shared total (weightsBy rules Persons s) out → take (b .units) out ≡ commonWater wholeWh rules s
     unfolding commonWater
     common-water-is e g = over-units Persons refl e g

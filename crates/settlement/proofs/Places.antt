@@ -11,6 +11,7 @@ use Rattle.sheet.specs.declared.refusal.Outcome.the-variants.{Accepted, Refused
 use Rattle.sheet.specs.Tests.{if_then_else_}
 use Rattle.sheet.specs.Refusals.{firstRefusal}
 use Rattle.sheet.specs.Inner.Places.{PlaceBelow}
+use Rattle.sheet.specs.declared.rule_set.RuleSet.{RuleSet}
 use Rattle.sheet.specs.Layout.{sheetOf}
 use Rattle.month.specs.Month.{Month, monthOf, settleRules, unlessRefused, settledSheet}
 use Rattle.month.proofs.Places.{settle-place}
@@ -21,9 +22,9 @@ pub length-place : (t : Bool) → PlaceBelow 160 (if t then Accepted else Refuse
 length-place true = tt
 length-place false = omega arith
 
-pub answer-place : (bytes list : List ℕ) → PlaceBelow 160 (settleAnswer bytes list)
+pub answer-place : (rules : RuleSet) (bytes list : List ℕ) → PlaceBelow 160 (settleAnswer rules bytes list)
 unfolding settleAnswer settledSheet
-answer-place bytes list = go (firstRefusal (settleRules bytes)) (monthOf (sheetOf bytes)) (settle-place bytes)
+answer-place rules bytes list = go (firstRefusal (settleRules bytes)) (monthOf rules (sheetOf bytes)) (settle-place bytes)
   where
     go : (o : Outcome) (m : Month) → PlaceBelow 160 o → PlaceBelow 160 (answerOf (unlessRefused o m) (length list))
     go Accepted m h = length-place (eqb (length list) (8 * m .unitCount))

@@ -10,11 +10,13 @@ use lib.Dec.{ltb, eqb}
 use lib.ListN.{length, getD, take, drop, set, length-set}
 use lib.Seq.{getD-set-same, getD-set-other, ext-getD, getD-take}
 use Rattle.apportion.specs.Shares.{shares}
+use Rattle.sheet.specs.declared.rule_set.RuleSet.{RuleSet}
 use Rattle.sheet.specs.Layout.{Sheet, sheetOf}
 use Rattle.month.specs.Steps.{wholeWh, unitByUnit, heat, commonHeat, water, commonWater, energies}
 use Rattle.month.specs.Month.{billCents, costs, statementOf}
 use Rattle.month.proofs.Lists.{decided, getD-tail, rows-length, row-energy, row-cost}
 use Rattle.month.proofs.Sums.{energies-length, costs-fair}
+use Rattle.weights.specs.declared.basis.Basis.{Basis}
 use Rattle.settlement.specs.Inner.Numbers.{Put, energyPlace, costPlace, EnergiesWritten}
 
 -- ---- one number more
@@ -74,38 +76,41 @@ by-unit-take (suc n) a b c d =
     rw (first a, first b, first c, first d, tail-take n a, tail-take n b, tail-take n c, tail-take n d)
     (ap (λ (r : List ℕ). getD a 0 0 ∷ getD b 0 0 ∷ getD c 0 0 ∷ getD d 0 0 ∷ r) (by-unit-take n (drop 1 a) (drop 1 b) (drop 1 c) (drop 1 d)))
 
-pub energies-by-unit : (s : Sheet) {n : ℕ} (a b c d : List ℕ) → n ≡ length (s .units)
-    → take n a ≡ heat wholeWh s → take n b ≡ commonHeat wholeWh s → take n c ≡ water wholeWh s → take n d ≡ commonWater wholeWh s
-    → unitByUnit wholeWh n a b c d ≡ energies wholeWh s
+pub energies-by-unit : (rules : RuleSet) (s : Sheet) {n : ℕ} (a b c d : List ℕ) → n ≡ length (s .units)
+    → take n a ≡ heat wholeWh rules s → take n b ≡ commonHeat wholeWh rules s → take n c ≡ water wholeWh rules s → take n d ≡ commonWater wholeWh rules s
+    → unitByUnit wholeWh n a b c d ≡ energies wholeWh rules s
 unfolding energies
-energies-by-unit s {n} a b c d count ea eb ec ed = by-unit-take n a b c d ∙ rw (ea, eb, ec, ed, count)
+energies-by-unit rules s {n} a b c d count ea eb ec ed = by-unit-take n a b c d ∙ rw (ea, eb, ec, ed, count)
 
 -- ---- a statement with its energies
-module _ {bytes : List ℕ} {n : ℕ} {out : List ℕ} (w : EnergiesWritten bytes n out) where
+module _ {bytes : List ℕ} {b : Basis} {out : List ℕ} (w : EnergiesWritten bytes b out) where
   abbrev s : Sheet
   s = sheetOf bytes
 
-  many : n ≡ length (s .units)
-  many = w .count ∙ sym (w .accepted .checked-sheet .unit-count)
+  abbrev rules : RuleSet
+  rules = b .rules
 
-  energy-count : length (energies wholeWh s) ≡ 4 * length (s .units)
-  energy-count = energies-length s (w .accepted)
+  many : b .units ≡ length (s .units)
+  many = w .accepts .count ∙ sym (w .accepts .accepted .checked-sheet .unit-count)
 
-  cost-count : length (costs s) ≡ 4 * length (s .units)
-  cost-count = costs-fair s (w .accepted) .as-many ∙ energy-count
+  energy-count : length (energies wholeWh rules s) ≡ 4 * length (s .units)
+  energy-count = energies-length rules s (w .accepts .accepted)
 
-  pub energies-are : (before ws : List ℕ) → length ws ≡ 4 * n → Put (λ k. k) (4 * n) (λ k. getD out (energyPlace k) 0) before ws → ws ≡ energies wholeWh s
-  energies-are before ws l p = ext-getD 0 ws (energies wholeWh s) (omega (arith, energy-count, many)) (λ k h. p .put k (omega arith) ∙ w .energy k (omega arith))
+  cost-count : length (costs rules s) ≡ 4 * length (s .units)
+  cost-count = costs-fair rules s (w .accepts .accepted) .as-many ∙ energy-count
 
-  pub costs-are : {ws cents : List ℕ} {b : ℕ} → ws ≡ energies wholeWh s → b ≡ billCents s → cents ≡ shares b ws → cents ≡ costs s
+  pub energies-are : (before ws : List ℕ) → length ws ≡ 4 * b .units → Put (λ k. k) (4 * b .units) (λ k. getD out (energyPlace k) 0) before ws → ws ≡ energies wholeWh rules s
+  energies-are before ws l p = ext-getD 0 ws (energies wholeWh rules s) (omega (arith, energy-count, many)) (λ k h. p .put k (omega arith) ∙ w .energy k (omega arith))
+
+  pub costs-are : {ws cents : List ℕ} {bill : ℕ} → ws ≡ energies wholeWh rules s → bill ≡ billCents s → cents ≡ shares bill ws → cents ≡ costs rules s
   unfolding costs
   costs-are e f g = g ∙ rw (e, f)
 
   -- and its cents: place p holds number p % 8 of unit p / 8
-  module _ (cents after : List ℕ) (c : cents ≡ costs s) (l : length after ≡ 8 * n) (put : Put costPlace (4 * n) (λ k. getD cents k 0) out after) where
-    pub statement-is : after ≡ statementOf s
+  module _ (cents after : List ℕ) (c : cents ≡ costs rules s) (l : length after ≡ 8 * b .units) (put : Put costPlace (4 * b .units) (λ k. getD cents k 0) out after) where
+    pub statement-is : after ≡ statementOf rules s
     unfolding statementOf
-    statement-is = ext-getD 0 after (statementOf s) (omega (arith, rows-length (length (s .units)) (energies wholeWh s) (costs s) energy-count cost-count, many)) (λ p h.
+    statement-is = ext-getD 0 after (statementOf rules s) (omega (arith, rows-length (length (s .units)) (energies wholeWh rules s) (costs rules s) energy-count cost-count, many)) (λ p h.
         let i = p / 8 in
         let j = p % 8 in
         let inside : i < length (s .units) = omega (arith, many) in
@@ -118,8 +123,8 @@ module _ {bytes : List ℕ} {n : ℕ} {out : List ℕ} (w : EnergiesWritten byte
               put .kept p (λ x less z. omega arith)
               ∙ ap (λ (x : ℕ). getD out x 0) (sym at)
               ∙ w .energy k (omega (arith, many))
-              ∙ sym (row-energy (length (s .units)) (energies wholeWh s) (costs s) i j energy-count cost-count inside few)
-              ∙ ap (λ (x : ℕ). getD (statementOf s) x 0) row
+              ∙ sym (row-energy (length (s .units)) (energies wholeWh rules s) (costs rules s) i j energy-count cost-count inside few)
+              ∙ ap (λ (x : ℕ). getD (statementOf rules s) x 0) row
           | inr y ↦
               let many-more = ltb-false j 4 y in
               let k = 4 * i + (j - 4) in
@@ -128,6 +133,6 @@ module _ {bytes : List ℕ} {n : ℕ} {out : List ℕ} (w : EnergiesWritten byte
               ap (λ (x : ℕ). getD after x 0) (sym at)
               ∙ put .put k (omega (arith, many))
               ∙ ap (λ (xs : List ℕ). getD xs k 0) c
-              ∙ sym (row-cost (length (s .units)) (energies wholeWh s) (costs s) i (j - 4) energy-count cost-count inside (omega arith))
-              ∙ ap (λ (x : ℕ). getD (statementOf s) x 0) row
+              ∙ sym (row-cost (length (s .units)) (energies wholeWh rules s) (costs rules s) i (j - 4) energy-count cost-count inside (omega arith))
+              ∙ ap (λ (x : ℕ). getD (statementOf rules s) x 0) row
         ])

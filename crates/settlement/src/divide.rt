@@ -4,11 +4,11 @@ ghost use Prim.Native.Nat.{_-_, _^_, _≤_, _<_};
 ghost use lib.ListN.{length, take, replicate};
 ghost use Rattle.apportion.specs.Shares.{sum, shares};
 ghost use Rattle.sheet.specs.Layout.{sheetOf};
-ghost use Rattle.month.specs.Steps.{wholeWh, splitBy};
 ghost use Rattle.weights.specs.Inner.By.{weightsBy};
 ghost use Rattle.weights.specs.Inner.Ready.{Accepts};
 ghost use Rattle.settlement.specs.Inner.Division.{Divides, Shared};
-use weights::Totals;
+ghost use Rattle.settlement.specs.Inner.Heat.{SplitParts};
+use weights::Basis;
 use weights::gather::By;
 use weights::gather::gather;
 
@@ -23,15 +23,15 @@ pub(crate) fn share(total: u64, m: usize, weights: &[u64], out: &mut [u32])
 }
 
 // The total divided by the weights of the units that take part, at the front of a list that begins as zeros: with nothing to divide it stays.
-pub(crate) fn divide_by(s: &[u8], n: usize, by: By, t: Totals, total: u64, out: &mut [u32])
-    requires { ⌜ Accepts (now s) n t × (now out ≡ replicate 160 0) × Divides total (weightsBy by (sheetOf (now s))) ⌝ }
-    ensures { λ r. ⌜ Shared total (weightsBy by (sheetOf (now (s .entry)))) (now (out .exit)) ⌝ }
+pub(crate) fn divide_by(s: &[u8], b: Basis, by: By, total: u64, out: &mut [u32])
+    requires { ⌜ Accepts (now s) b × (now out ≡ replicate 160 0) × Divides total (weightsBy (b .rules) by (sheetOf (now s))) ⌝ }
+    ensures { λ r. ⌜ Shared total (weightsBy (b .rules) by (sheetOf (now (s .entry)))) (now (out .exit)) ⌝ }
 {
     if total == 0 {
         return;
     }
     let mut weights = [0u64; 160];
-    let m = gather(s, n, by, t, &mut weights);
+    let m = gather(s, b, by, &mut weights);
     share(total, m, &weights, out);
 }
 
@@ -41,10 +41,10 @@ pub struct Parts {
     pub common: u64,
 }
 
-// Divided by (100 − percent, percent): of two remainders the larger is a half or more, so the first part is half up.
+// Divided by (100 − percent, percent), by any rules: of two remainders the larger is a half or more, so the first part is half up.
 pub(crate) fn split(percent: u64, total: u64) -> Parts
     requires { ⌜ (total < 2 ^ 32 - 1) × (percent ≤ 100) ⌝ }
-    ensures { λ r. ⌜ (r .units ≡ splitBy wholeWh percent total .ofUnits) × (r .common ≡ splitBy wholeWh percent total .common) ⌝ }
+    ensures { λ r. ⌜ SplitParts percent total r ⌝ }
 {
     let units = (total * (100 - percent) + 50) / 100;
     Parts {

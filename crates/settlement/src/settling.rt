@@ -3,6 +3,7 @@ ghost use mathlib.Core.Path.{_≡_};
 ghost use Prim.Native.Nat.{_*_};
 ghost use lib.ListN.{length};
 ghost use Rattle.sheet.specs.declared.refusal.Outcome.the-variants.{Accepted};
+ghost use Rattle.sheet.specs.RuleSets.{newest};
 ghost use Rattle.sheet.specs.Layout.{sheetOf};
 ghost use Rattle.sheet.specs.Check.{checked};
 ghost use Rattle.month.specs.Month.{hotWaterWh, statementOf};
@@ -17,42 +18,43 @@ use crate::layout::put_energies;
 use crate::water::water_shares;
 use sheet::Outcome;
 use sheet::Refusal;
+use sheet::RuleSet;
 use sheet::Sum;
 use sheet::header;
-use weights::Totals;
+use weights::Basis;
 use weights::hot_water::hot_water;
 use weights::metered_heat;
 use weights::refusal;
 use weights::sum_rows;
 
 // Steps 2 to 7 of a sheet that is not refused, into a list of 8n numbers.
-fn write_statement(s: &[u8], n: usize, t: Totals, h: u64, c: Sum, statement: &mut [u32])
-    requires { ⌜ Accepts (now s) n t × (h ≡ hotWaterWh (sheetOf (now s))) × (c ≡ amountOf (meteredHeat (sheetOf (now s)))) × (length (now statement) ≡ 8 * n) ⌝ }
-    ensures { λ r. ⌜ now (statement .exit) ≡ statementOf (sheetOf (now (s .entry))) ⌝ }
+fn write_statement(s: &[u8], b: Basis, h: u64, c: Sum, statement: &mut [u32])
+    requires { ⌜ Accepts (now s) b × (h ≡ hotWaterWh (sheetOf (now s))) × (c ≡ amountOf (meteredHeat (sheetOf (now s)))) × (length (now statement) ≡ 8 * b .units) ⌝ }
+    ensures { λ r. ⌜ now (statement .exit) ≡ statementOf (b .rules) (sheetOf (now (s .entry))) ⌝ }
 {
     let mut units_heat = [0u32; 160];
     let mut common_heat = [0u32; 160];
     let mut units_water = [0u32; 160];
     let mut common_water = [0u32; 160];
-    let parts = heat_parts(s, n, t, h, c);
-    heat_shares(s, n, t, parts, &mut units_heat, &mut common_heat);
-    water_shares(s, n, t, h, &mut units_water, &mut common_water);
+    let parts = heat_parts(s, b, h, c);
+    heat_shares(s, b, parts, &mut units_heat, &mut common_heat);
+    water_shares(s, b, h, &mut units_water, &mut common_water);
     put_energies(
-        n,
+        b.units,
         &units_heat,
         &common_heat,
         &units_water,
         &common_water,
         statement,
     );
-    bill::write_costs(s, n, statement);
+    bill::write_costs(s, b, statement);
 }
 
-// A sheet that passes 1 to 7: 8 to 12, then 13, then the statement.
-pub fn settle_checked(s: &[u8], statement: &mut [u32]) -> Outcome
+// A sheet that passes 1 to 7, by the rules: 8 to 12, then 13, then the statement.
+pub fn settle_checked(rules: RuleSet, s: &[u8], statement: &mut [u32]) -> Outcome
     requires { ⌜ checked 32 (now s) ≡ Accepted ⌝ }
-    ensures { λ r. ⌜ r ≡ settleAnswer (now (s .entry)) (now (statement .entry)) ⌝ }
-    ensures { λ _. ⌜ now (statement .exit) ≡ statementAfter (now (s .entry)) (now (statement .entry)) ⌝ }
+    ensures { λ r. ⌜ r ≡ settleAnswer rules (now (s .entry)) (now (statement .entry)) ⌝ }
+    ensures { λ _. ⌜ now (statement .exit) ≡ statementAfter rules (now (s .entry)) (now (statement .entry)) ⌝ }
 {
     let n = header::header_field(s, header::UNIT_COUNT) as usize;
     let t = sum_rows(s, n);
@@ -65,18 +67,23 @@ pub fn settle_checked(s: &[u8], statement: &mut [u32]) -> Outcome
     if statement.len() != 8 * n {
         return Outcome::Refused(Refusal::BufferLength);
     }
-    write_statement(s, n, t, h, c, statement);
+    let b = Basis {
+        rules,
+        units: n,
+        totals: t,
+    };
+    write_statement(s, b, h, c, statement);
     Outcome::Accepted
 }
 
-// The statement of a sheet into a list of 8n numbers: 1 to 12, then 13. A refused call leaves the list as it was.
+// The statement of a sheet by the newest rules into a list of 8n numbers: 1 to 12, then 13. A refused call leaves the list as it was.
 pub fn settle(sheet: &[u8], statement: &mut [u32]) -> Outcome
-    ensures { λ r. ⌜ r ≡ settleAnswer (now (sheet .entry)) (now (statement .entry)) ⌝ }
-    ensures { λ _. ⌜ now (statement .exit) ≡ statementAfter (now (sheet .entry)) (now (statement .entry)) ⌝ }
+    ensures { λ r. ⌜ r ≡ settleAnswer newest (now (sheet .entry)) (now (statement .entry)) ⌝ }
+    ensures { λ _. ⌜ now (statement .exit) ≡ statementAfter newest (now (sheet .entry)) (now (statement .entry)) ⌝ }
 {
     let outcome = sheet::check_sheet(sheet);
     let Outcome::Accepted = outcome else {
         return outcome;
     };
-    settle_checked(sheet, statement)
+    settle_checked(sheet::NEWEST, sheet, statement)
 }

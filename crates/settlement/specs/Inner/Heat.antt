@@ -4,26 +4,32 @@ use mathlib.Core.Bool.{false}
 use mathlib.Core.List.{List}
 use Prim.Native.Nat.{ℕ, _<_}
 use lib.ListN.{replicate}
+use Rattle.sheet.specs.declared.rule_set.RuleSet.{RuleSet}
 use Rattle.sheet.specs.Layout.{Sheet, sheetOf}
 use Rattle.month.specs.Weights.{allMetered}
-use Rattle.month.specs.Steps.{wholeWh, heatParts}
+use Rattle.month.specs.Steps.{wholeWh, splitBy, heatParts}
 use Rattle.weights.specs.Inner.Ready.{Accepts}
 use Rattle.settlement.specs.declared.divide.Parts.{Parts}
-use Rattle.weights.specs.declared.totals.Totals.{Totals}
+use Rattle.weights.specs.declared.basis.Basis.{Basis}
+
+-- (100 − percent, percent) parts a total alike by all rules
+pub record SplitParts (percent total : ℕ) (parts : Parts) : Type 0 where
+  pub units : (rules : RuleSet) → parts .units ≡ splitBy wholeWh rules percent total .ofUnits
+  pub common : (rules : RuleSet) → parts .common ≡ splitBy wholeWh rules percent total .common
 
 -- step 2
-pub record HeatParts (s : Sheet) (parts : Parts) : Type 0 where
-  pub units : parts .units ≡ heatParts wholeWh s .ofUnits
-  pub common : parts .common ≡ heatParts wholeWh s .common
+pub record HeatParts (rules : RuleSet) (s : Sheet) (parts : Parts) : Type 0 where
+  pub units : parts .units ≡ heatParts wholeWh rules s .ofUnits
+  pub common : parts .common ≡ heatParts wholeWh rules s .common
 
 -- units' heat of a sheet that is not refused, and a list of zeros for 160 units
-pub record UnitsHeat (bytes : List ℕ) (n : ℕ) (t : Totals) (total : ℕ) (out : List ℕ) : Type 0 where
-  pub accepts : Accepts bytes n t
-  pub total-is : total ≡ heatParts wholeWh (sheetOf bytes) .ofUnits
+pub record UnitsHeat (bytes : List ℕ) (b : Basis) (total : ℕ) (out : List ℕ) : Type 0 where
+  pub accepts : Accepts bytes b
+  pub total-is : total ≡ heatParts wholeWh (b .rules) (sheetOf bytes) .ofUnits
   pub zeros : out ≡ replicate 160 0
 
 -- models 3 to 5, step 2's exception apart
-pub record ByReadings (bytes : List ℕ) (n : ℕ) (t : Totals) (total : ℕ) (out : List ℕ) : Type 0 where
-  pub asked : UnitsHeat bytes n t total out
+pub record ByReadings (bytes : List ℕ) (b : Basis) (total : ℕ) (out : List ℕ) : Type 0 where
+  pub asked : UnitsHeat bytes b total out
   pub model : 2 < sheetOf bytes .model
   pub unmetered : allMetered (sheetOf bytes) ≡ false

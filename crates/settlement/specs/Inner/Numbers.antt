@@ -4,9 +4,9 @@ use mathlib.Core.List.{List}
 use Prim.Native.Nat.{ℕ, _+_, _*_, _/_, _%_, _<_}
 use lib.ListN.{length, getD}
 use Rattle.sheet.specs.Layout.{sheetOf}
-use Rattle.sheet.specs.Inner.Fits.{Fits}
 use Rattle.month.specs.Steps.{wholeWh, energies}
-use Rattle.month.specs.Inner.Accepted.{AcceptedSheet}
+use Rattle.weights.specs.Inner.Ready.{Accepts}
+use Rattle.weights.specs.declared.basis.Basis.{Basis}
 
 -- Numbers 0 to m − 1 are written, number k to place `at k`, and every other place is as before.
 pub record Put (at : ℕ → ℕ) (m : ℕ) (number : ℕ → ℕ) (before after : List ℕ) : Type 0 where
@@ -20,10 +20,8 @@ energyPlace k = 8 * (k / 4) + k % 4
 abbrev pub costPlace : ℕ → ℕ
 costPlace k = 8 * (k / 4) + (4 + k % 4)
 
--- a sheet of n units that is not refused, and a statement with its energies
-pub record EnergiesWritten (bytes : List ℕ) (n : ℕ) (out : List ℕ) : Type 0 where
-  pub fits : Fits 32 bytes
-  pub accepted : AcceptedSheet (sheetOf bytes)
-  pub count : n ≡ sheetOf bytes .unitCount
-  pub room : length out ≡ 8 * n
-  pub energy : (k : ℕ) → k < 4 * n → getD out (energyPlace k) 0 ≡ getD (energies wholeWh (sheetOf bytes)) k 0
+-- a sheet that is not refused, and a statement with its energies
+pub record EnergiesWritten (bytes : List ℕ) (b : Basis) (out : List ℕ) : Type 0 where
+  pub accepts : Accepts bytes b
+  pub room : length out ≡ 8 * b .units
+  pub energy : (k : ℕ) → k < 4 * b .units → getD out (energyPlace k) 0 ≡ getD (energies wholeWh (b .rules) (sheetOf bytes)) k 0

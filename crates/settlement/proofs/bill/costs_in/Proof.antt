@@ -23,13 +23,14 @@ apportion-requires c κs =
     let st = c .before .before .before .before .before .before .before .before .before .before .before .before .before .before in
     let p = st .pre in
     let s = sheetOf (st .args .s .now) in
-    let a = p .0 .accepted in
+    let a = p .0 .accepts .accepted in
+    let rules = st .args .b .rules in
     let w = c .before .before .before .before .before .before .energy-weights in
     let b = c .before .before .before .bill-cents in (
       subst⁻¹ (λ (l : List ℕ). (b .result < 2 ^ 32 - 1) × (sum l < 2 ^ 62) × (sum l ≡ 0 → b .result ≡ 0)) (energies-are (p .0) _ _ (omega (arith, w .kept, p .1 .0)) (w .ensures)) (
         omega (arith, b .ensures, sum-bounds s (a .checked-sheet) .bill),
-        omega (arith, energies-sum s a, a .checked-sheet .header .sharedMeter),
-        (λ z. b .ensures ∙ bill-divisible s a z),
+        omega (arith, energies-sum rules s a, a .checked-sheet .header .sharedMeter),
+        (λ z. b .ensures ∙ bill-divisible rules s a z),
       ),
       (omega (arith, p .1, w .kept), omega (arith, p .1, w .kept)),
     )

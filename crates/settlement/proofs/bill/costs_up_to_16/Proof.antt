@@ -8,8 +8,8 @@ use borrow.Author.Needs.{needs}
 use Rattle.settlement.proofs.bill.costs_up_to_16.Statement.{statement}
 use Rattle.settlement.proofs.bill.costs_up_to_16.Tie as tie
 
-part : (st : tie.Start) → length {A = ℕ} (take (4 * st .args .n) (replicate 64 0)) ≡ 4 * st .args .n
-part st = lent-length 64 (4 * st .args .n) (omega (arith, st .pre .1))
+part : (st : tie.Start) → length {A = ℕ} (take (4 * st .args .b .units) (replicate 64 0)) ≡ 4 * st .args .b .units
+part st = lent-length 64 (4 * st .args .b .units) (omega (arith, st .pre .1))
 
 mul-m : tie.Need-mul-m
 mul-m c = search needs
@@ -18,22 +18,22 @@ array-borrow-prefix-weights : tie.Need-array-borrow-prefix-weights
 array-borrow-prefix-weights c = search needs
 
 slice-aggregate-costs-in : tie.Need-slice-aggregate-costs-in
-slice-aggregate-costs-in c = sym (part (c .before .before .before))
+slice-aggregate-costs-in c = sym (part (c .before .before .before .before))
 
 array-borrow-prefix-remainders : tie.Need-array-borrow-prefix-remainders
 array-borrow-prefix-remainders c = search needs
 
 slice-aggregate-costs-in-2 : tie.Need-slice-aggregate-costs-in-2
-slice-aggregate-costs-in-2 c = sym (part (c .before .before .before .before))
+slice-aggregate-costs-in-2 c = sym (part (c .before .before .before .before .before))
 
 array-borrow-prefix-cents : tie.Need-array-borrow-prefix-cents
 array-borrow-prefix-cents c = search needs
 
 slice-aggregate-costs-in-3 : tie.Need-slice-aggregate-costs-in-3
-slice-aggregate-costs-in-3 c = sym (part (c .before .before .before .before .before))
+slice-aggregate-costs-in-3 c = sym (part (c .before .before .before .before .before .before))
 
 costs-in-requires : tie.Need-costs-in-requires
-costs-in-requires c κs = let st = c .before .before .before .before .before .before in (st .pre .0, (part st, part st, part st))
+costs-in-requires c κs = let st = c .before .before .before .before .before .before .before in (st .pre .0, (part st, part st, part st))
 
 same-length : tie.Need-same-length
 same-length c = search needs

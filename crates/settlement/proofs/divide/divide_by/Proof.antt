@@ -31,7 +31,7 @@ share-requires c κs =
     let few = p .0 .ready .fits .header .unitCount in
     let g = c .before .before .before .gather in (
       (omega (arith, p .0 .count, few), omega (arith, g .kept, p .0 .count, few), omega (arith, p .0 .count, few, ap length (p .1))),
-      rw (g .ensures .1) (p .2, weights-fit (sheetOf (st .args .s .now)) (p .0 .accepted .checked-sheet) (st .args .by)),
+      rw (g .ensures .1) (p .2, weights-fit (st .args .b .rules) (sheetOf (st .args .s .now)) (p .0 .accepted .checked-sheet) (st .args .by)),
     )
 
 same-length : tie.Need-same-length
@@ -41,7 +41,7 @@ returns-2 : tie.Need-returns-2
 returns-2 c =
     let st = c .before .before .before .before .before .before .before .before .before .before .before in
     let g = c .before .before .before .before .before .before .gather in
-    let w = g .last .1 .1 .1 .1 .0 in
+    let w = g .last .1 .1 .1 .0 in
     let m = g .result in
     let many = length-take-le m w (omega (arith, g .kept, st .pre .0 .count, st .pre .0 .ready .fits .header .unitCount)) in
     subst (λ (l : List ℕ). take (length l) (c .before .before .share .last .1 .1 .1 .0) ≡ shares (st .args .total) l) (g .ensures .1) (rw many (c .before .before .share .ensures))

@@ -19,7 +19,7 @@ sub-t4 c = half-up-le (c .args .total) (c .args .percent) (omega arith)
 
 returns : tie.Need-returns
 unfolding splitBy
-returns c = let a = c .args in (sym (first-part (a .total) (a .percent) (omega arith)), sym (second-part (a .total) (a .percent) (omega arith)))
+returns c = let a = c .args in record { units = λ rules. sym (first-part (a .total) (a .percent) (omega arith)); common = λ rules. sym (second-part (a .total) (a .percent) (omega arith)) }
 
 pub split-spec : {M : Type 1} → statement M
 split-spec = tie.close (tie.spec sub-units mul-units add-units sub-t4 returns)

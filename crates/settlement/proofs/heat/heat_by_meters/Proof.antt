@@ -15,10 +15,10 @@ use Rattle.settlement.proofs.heat.heat_by_meters.Statement.{statement}
 use Rattle.settlement.proofs.heat.heat_by_meters.Tie as tie
 
 abbrev Inv-loop : tie.InvT-loop
-Inv-loop s n out₀ i₀ out i = (i ≤ n) × ((length out ≡ 160) × (take i out ≡ chosen (λ u. true) (λ u. u .reading) (take i (sheetOf s .units))))
+Inv-loop s out₀ i₀ i-end out i = (i ≤ i-end) × ((length out ≡ 160) × (take i out ≡ chosen (λ u. true) (λ u. u .reading) (take i (sheetOf s .units))))
 
 abbrev μ-loop : tie.MeasureT-loop
-μ-loop s n out₀ i₀ out i = n - i
+μ-loop s out₀ i₀ i-end out i = i-end - i
 
 loop-holds : tie.Need-loop-holds Inv-loop μ-loop
 loop-holds c = (omega arith, (search needs, refl))
@@ -59,8 +59,8 @@ returns c =
     let st = c .before .before .before .before in
     let l = c .before .loop in
     let us = sheetOf (st .args .s .now) .units in
-    let e : l .i ≡ st .args .n = omega arith in
-    rw (st .pre .3, ← e) (l .inv .1 .1 ∙ ap (map (λ (u : UnitRow). u .reading)) (those-all _ ∙ take-all (l .i) us (omega arith)))
+    let e : l .i ≡ st .args .b .units = omega arith in
+    rw (st .pre .2, ← e) (l .inv .1 .1 ∙ ap (map (λ (u : UnitRow). u .reading)) (those-all _ ∙ take-all (l .i) us (omega arith)))
 
 pub heat-by-meters-spec : {M : Type 1} → statement M
 heat-by-meters-spec =

@@ -29,7 +29,7 @@ divide-by-requires : tie.Need-divide-by-requires
 divide-by-requires c κs =
     let p = c .before .before .before .before .before .before .before .pre in
     let f = c .before .before .before .pool-shares in
-    (p .asked .accepts, refl, pool-divides (p .asked .accepts) (p .model) (p .unmetered) (f .last .1 .1 .1 .1 .0) (f .ensures .1) (f .ensures .2) (c .before .wide .ensures))
+    (p .asked .accepts, refl, pool-divides (p .asked .accepts) (p .model) (p .unmetered) (f .last .1 .1 .1 .0) (f .ensures .1) (f .ensures .2) (c .before .wide .ensures))
 
 slice-aggregate-merge : tie.Need-slice-aggregate-merge
 slice-aggregate-merge c = search needs
@@ -50,8 +50,8 @@ returns c =
     let p = c .before .before .before .before .before .before .before .before .before .before .before .before .before .before .before .pre in
     let f = c .before .before .before .before .before .before .before .before .before .before .before .pool-shares in
     let d = c .before .before .before .before .before .before .before .divide-by in
-    heat-is (p .asked .accepts) (p .model) (p .unmetered) (f .last .1 .1 .1 .1 .0) (f .ensures .1) (f .ensures .2) (c .before .before .before .before .before .before .before .before .before .wide .ensures)
-    (d .last .1 .1 .1 .1 .1 .0) (d .ensures) (c .before .before .merge .ensures)
+    heat-is (p .asked .accepts) (p .model) (p .unmetered) (f .last .1 .1 .1 .0) (f .ensures .1) (f .ensures .2) (c .before .before .before .before .before .before .before .before .before .wide .ensures)
+    (d .last .1 .1 .1 .1 .0) (d .ensures) (c .before .before .merge .ensures)
 
 pub heat-by-readings-spec : {M : Type 1} → statement M
 heat-by-readings-spec =

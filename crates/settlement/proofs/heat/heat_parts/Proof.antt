@@ -40,9 +40,9 @@ is-C c =
     let st = c .before .before .before .before .before in
     c .number .ensures ∙ metered (sheetOf (st .args .s .now)) (st .pre .0 .accepted .checked-sheet) (exception c) (st .args .c) (st .pre .2)
 
-sub-t10 : tie.Need-sub-t10
+sub-t9 : tie.Need-sub-t9
 unfolding spaceHeatWh spaceHeat hotWaterWh
-sub-t10 c = omega (arith, c .before .before .before .before .before .pre .0 .accepted .meters-fit (exception c), is-C c)
+sub-t9 c = omega (arith, c .before .before .before .before .before .pre .0 .accepted .meters-fit (exception c), is-C c)
 
 returns : tie.Need-returns
 unfolding heatParts spaceHeat hotWaterWh
@@ -58,7 +58,9 @@ returns-2 : tie.Need-returns-2
 unfolding heatParts spaceHeat hotWaterWh
 returns-2 c =
     let e = sym (c .before .before .before .all-metered .ensures) ∙ c .before .before .if1 .left in
-    record { units = rw e (cc); common = rw e (cc) }
+    let parts = c .split .ensures in
+    let rules = c .before .before .before .before .before .before .args .b .rules in
+    record { units = rw e (parts .units rules ∙ (cc)); common = rw e (parts .common rules ∙ (cc)) }
 
 pub heat-parts-spec : {M : Type 1} → statement M
 heat-parts-spec =
@@ -68,7 +70,7 @@ heat-parts-spec =
     sub-space-heat
     all-metered-requires
     number-requires
-    sub-t10
+    sub-t9
     returns
     head-requires-2
     split-requires

@@ -20,7 +20,7 @@ returns : tie.Need-returns
 returns c =
     let p = c .before .before .before .before .before .before .before .before .before .before .before .pre in
     let d = c .before .before .divide-by in
-    (c .before .before .before .before .before .before .unit-heat .ensures, common-heat-is (p .0) (d .last .1 .1 .1 .1 .1 .0) (p .1 .common) (d .ensures))
+    (c .before .before .before .before .before .before .unit-heat .ensures, common-heat-is (p .0) (d .last .1 .1 .1 .1 .0) (p .1 .common) (d .ensures))
 
 pub heat-shares-spec : {M : Type 1} → statement M
 heat-shares-spec = tie.close (tie.spec unit-heat-requires divide-by-requires same-length same-length-2 returns)

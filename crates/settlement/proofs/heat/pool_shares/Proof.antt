@@ -31,7 +31,7 @@ array-write-weights : tie.Need-array-write-weights
 array-write-weights c =
     let p = c .before .before .before .before .before .before .before .pre in
     let g = c .before .before .before .gather in
-    pool-weights (p .asked .accepts) (p .model) (g .last .1 .1 .1 .1 .0) (omega (arith, g .kept)) (g .ensures) .few
+    pool-weights (p .asked .accepts) (p .model) (g .last .1 .1 .1 .0) (omega (arith, g .kept)) (g .ensures) .few
 
 add-share : tie.Need-add-share
 add-share c = search needs
@@ -44,12 +44,12 @@ share-requires c κs =
     let st = c .before .before .before .before .before .before .before .before .before in
     let p = st .pre in
     let g = c .before .before .before .before .before .gather in
-    let w = pool-weights (p .asked .accepts) (p .model) (g .last .1 .1 .1 .1 .0) (omega (arith, g .kept)) (g .ensures) in
+    let w = pool-weights (p .asked .accepts) (p .model) (g .last .1 .1 .1 .0) (omega (arith, g .kept)) (g .ensures) in
     let s = sheetOf (st .args .s .now) in
     let a = p .asked .accepts .accepted in (
       (omega (arith, w .few), simp length-set (omega (arith, w .few, g .kept)), omega (arith, w .few, ap length (p .asked .zeros))),
       rw (w .weights)
-          ((omega (arith, p .asked .total-is, units-heat-le s a), λ z. absurd (omega (arith, pool-positive s a))), omega (arith, weight-bounds s (a .checked-sheet) .pool)),
+          ((omega (arith, p .asked .total-is, units-heat-le (st .args .b .rules) s a), λ z. absurd (omega (arith, pool-positive s a))), omega (arith, weight-bounds s (a .checked-sheet) (st .args .b .rules) .pool)),
     )
 
 same-length : tie.Need-same-length
@@ -60,7 +60,7 @@ unfolding poolShares
 returns c =
     let p = c .before .before .before .before .before .before .before .before .before .before .before .before .pre in
     let g = c .before .before .before .before .before .before .before .before .gather in
-    let w = pool-weights (p .asked .accepts) (p .model) (g .last .1 .1 .1 .1 .0) (omega (arith, g .kept)) (g .ensures) in
+    let w = pool-weights (p .asked .accepts) (p .model) (g .last .1 .1 .1 .0) (omega (arith, g .kept)) (g .ensures) in
     (w .few, w .count, cc (w .weights, p .asked .total-is))
 
 pub pool-shares-spec : {M : Type 1} → statement M

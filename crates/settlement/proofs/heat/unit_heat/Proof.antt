@@ -11,7 +11,7 @@ all-metered-requires : tie.Need-all-metered-requires
 all-metered-requires c κs = search needs
 
 heat-by-meters-requires : tie.Need-heat-by-meters-requires
-heat-by-meters-requires c κs = let p = c .before .before .before .before .before .pre in (p .accepts .ready .fits, p .accepts .count, ap length (p .zeros), sym (c .before .before .all-metered .ensures) ∙ c .before .if1 .taken)
+heat-by-meters-requires c κs = let p = c .before .before .before .before .before .pre in (p .accepts, ap length (p .zeros), sym (c .before .before .all-metered .ensures) ∙ c .before .if1 .taken)
 
 same-length : tie.Need-same-length
 same-length c = search needs
@@ -29,7 +29,7 @@ same-length-2 : tie.Need-same-length-2
 same-length-2 c = search needs
 
 returns-2 : tie.Need-returns-2
-returns-2 c = let p = c .before .before .before .before .before .before .before .before .before .before .pre in let d = c .before .before .divide-by in load-is (p .accepts) (d .last .1 .1 .1 .1 .1 .0) (omega arith) (p .total-is) (d .ensures)
+returns-2 c = let p = c .before .before .before .before .before .before .before .before .before .before .pre in let d = c .before .before .divide-by in load-is (p .accepts) (d .last .1 .1 .1 .1 .0) (omega arith) (p .total-is) (d .ensures)
 
 divide-by-requires-2 : tie.Need-divide-by-requires-2
 divide-by-requires-2 c κs = let p = c .before .before .before .before .before .before .before .before .pre in (p .accepts, p .zeros, rw (p .total-is) (area-heat (p .accepts)))
@@ -38,7 +38,7 @@ same-length-3 : tie.Need-same-length-3
 same-length-3 c = search needs
 
 returns-3 : tie.Need-returns-3
-returns-3 c = let p = c .before .before .before .before .before .before .before .before .before .before .before .pre in let d = c .before .before .divide-by2 in area-is (p .accepts) (d .last .1 .1 .1 .1 .1 .0) (omega arith) (p .total-is) (d .ensures)
+returns-3 c = let p = c .before .before .before .before .before .before .before .before .before .before .before .pre in let d = c .before .before .divide-by2 in area-is (p .accepts) (d .last .1 .1 .1 .1 .0) (omega arith) (p .total-is) (d .ensures)
 
 heat-by-readings-requires : tie.Need-heat-by-readings-requires
 heat-by-readings-requires c κs = let p = c .before .before .before .before .before .before .before .before .pre in record { asked = p; model = omega (arith, p .accepts .accepted .checked-sheet .header .modelLow); unmetered = sym (c .before .before .before .before .before .all-metered .ensures) ∙ c .before .before .before .before .if1 .left }

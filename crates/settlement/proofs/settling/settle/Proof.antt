@@ -1,6 +1,7 @@
 -- 1 to 7 first.
 use mathlib.Core.Path.{sym, _∙_}
 use borrow.Author.Needs.{needs}
+use Rattle.sheet.specs.RuleSets.{newest}
 use Rattle.settlement.proofs.Answers.{refused-sheet}
 use Rattle.settlement.proofs.settling.settle.Statement.{statement}
 use Rattle.settlement.proofs.settling.settle.Tie as tie
@@ -18,7 +19,7 @@ returns : tie.Need-returns
 returns c =
     let a = c .before .before .before .before .before .args in
     let o = c .before .before .check-sheet in
-    refused-sheet (a .sheet .now) (a .statement .now) (o .result) _ (o .ensures) (c .enum-told2 .given .1)
+    refused-sheet newest (a .sheet .now) (a .statement .now) (o .result) _ (o .ensures) (c .enum-told2 .given .1)
 
 settle-checked-requires : tie.Need-settle-checked-requires
 settle-checked-requires c κs = sym (c .before .before .before .check-sheet .ensures) ∙ c .before .enum-told .given .1

@@ -37,7 +37,7 @@ returns : tie.Need-returns
 returns c =
     let st = c .before .before .before .before .before .before .before .before .before in
     let o = c .before .before .refusal in
-    refused-month (st .args .s .now) (st .args .statement .now) (st .pre) (o .result) (o .ensures) _ (c .enum-told2 .given .1)
+    refused-month (st .args .rules) (st .args .s .now) (st .args .statement .now) (st .pre) (o .result) (o .ensures) _ (c .enum-told2 .given .1)
 
 mul-if1 : tie.Need-mul-if1
 mul-if1 c = search needs
@@ -46,7 +46,7 @@ returns-2 : tie.Need-returns-2
 returns-2 c =
     let st = c .before .before .before .before .before .before .before .before .before .before in
     let o = c .before .before .before .refusal in
-    wrong-length (st .args .s .now) (st .args .statement .now) (st .pre) (o .result) (o .ensures) (c .before .enum-told .given .1) _ (c .before .before .before .before .before .before .before .header-field .ensures) (c .if1 .taken)
+    wrong-length (st .args .rules) (st .args .s .now) (st .args .statement .now) (st .pre) (o .result) (o .ensures) (c .before .enum-told .given .1) _ (c .before .before .before .before .before .before .before .header-field .ensures) (c .if1 .taken)
 
 write-statement-requires : tie.Need-write-statement-requires
 write-statement-requires c κs =
@@ -63,7 +63,7 @@ returns-3 c =
     let st = c .before .before .before .before .before .before .before .before .before .before .before .before .before .before in
     let o = c .before .before .before .before .before .before .before .refusal in
     let w = c .before .before .write-statement in
-    written (st .args .s .now) (st .args .statement .now) (st .pre) (o .result) (o .ensures) (c .before .before .before .before .before .enum-told .given .1) _ (c .before .before .before .before .before .before .before .before .before .before .before .header-field .ensures) (c .before .before .before .before .if1 .left) (w .last .1 .1 .1 .1 .1 .0) (w .ensures)
+    written (st .args .rules) (st .args .s .now) (st .args .statement .now) (st .pre) (o .result) (o .ensures) (c .before .before .before .before .before .enum-told .given .1) _ (c .before .before .before .before .before .before .before .before .before .before .before .header-field .ensures) (c .before .before .before .before .if1 .left) (w .last .1 .1 .1 .1 .0) (w .ensures)
 
 pub settle-checked-spec : {M : Type 1} → statement M
 settle-checked-spec =

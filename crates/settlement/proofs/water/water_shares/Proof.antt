@@ -1,5 +1,5 @@
 -- H by (100 − y, y), each part over all units.
-use mathlib.Core.Path.{_≡_}
+use mathlib.Core.Path.{_≡_, _∙_}
 use Rattle.sheet.specs.Layout.{sheetOf}
 use Rattle.month.specs.Steps.{wholeWh, waterParts}
 use Rattle.month.specs.Month.{hotWaterWh}
@@ -10,9 +10,9 @@ use Rattle.settlement.proofs.water.water_shares.Tie as tie
 
 -- the two parts
 module _ (c : tie.After-split) where
-  parts-are : (c .split .result .units ≡ waterParts wholeWh (sheetOf (c .before .before .before .before .before .args .s .now)) .ofUnits) × (c .split .result .common ≡ waterParts wholeWh (sheetOf (c .before .before .before .before .before .args .s .now)) .common)
+  parts-are : (c .split .result .units ≡ waterParts wholeWh (c .before .before .before .before .before .args .b .rules) (sheetOf (c .before .before .before .before .before .args .s .now)) .ofUnits) × (c .split .result .common ≡ waterParts wholeWh (c .before .before .before .before .before .args .b .rules) (sheetOf (c .before .before .before .before .before .args .s .now)) .common)
   unfolding waterParts hotWaterWh
-  parts-are = ((cc), (cc))
+  parts-are = let rules = c .before .before .before .before .before .args .b .rules in (c .split .ensures .units rules ∙ (cc), c .split .ensures .common rules ∙ (cc))
 
 head-requires : tie.Need-head-requires
 head-requires c κs = search needs
@@ -38,8 +38,8 @@ returns c =
     let h = parts-are (c .before .before .before .before .before .before .before .before) in
     let u = c .before .before .before .before .before .before .divide-by in
     let d = c .before .before .divide-by2 in (
-      water-is (p .0) (u .last .1 .1 .1 .1 .1 .0) (h .0) (u .ensures),
-      common-water-is (p .0) (d .last .1 .1 .1 .1 .1 .0) (h .1) (d .ensures),
+      water-is (p .0) (u .last .1 .1 .1 .1 .0) (h .0) (u .ensures),
+      common-water-is (p .0) (d .last .1 .1 .1 .1 .0) (h .1) (d .ensures),
     )
 
 pub water-shares-spec : {M : Type 1} → statement M
