@@ -46,7 +46,7 @@ bytes-append [] ys = refl
 bytes-append (x ∷ xs) ys = ap (λ (r : List ℕ). bytes32 x ++ r) (bytes-append xs ys)
 
 -- four bytes and a number
-refuted : (t : Bool) → (t ≡ true → ⊥) → t ≡ false
+pub refuted : (t : Bool) → (t ≡ true → ⊥) → t ≡ false
 refuted true h = absurd (h refl)
 refuted false h = refl
 

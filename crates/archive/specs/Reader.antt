@@ -1,19 +1,23 @@
 -- The archive reader, of any bytes (document 01, "Archive record", refusal 14).
-use mathlib.Core.Bool.{not, _||_}
+use mathlib.Core.Bool.{true, not}
 use mathlib.Core.Path.{_≡_}
 use mathlib.Core.List.{List, [], _∷_, _++_}
 use Prim.Native.Nat.{ℕ, _+_, _*_}
-use lib.Dec.{ltb}
-use lib.ListN.{length, take, drop}
+use lib.ListN.{take, drop}
 use denote.Ref.{RefT, ptr, now}
 use Rattle.sheet.specs.declared.refusal.Refusal.the-variants.{BadArchive}
 use Rattle.sheet.specs.declared.refusal.Outcome.{Outcome}
 use Rattle.sheet.specs.declared.refusal.Outcome.the-variants.{Accepted, Refused}
 use Rattle.sheet.specs.Refusals.{Rule, _⇒_, firstRefusal}
+use Rattle.sheet.specs.declared.rule_set.RuleSet.{RuleSet}
+use Rattle.sheet.specs.RuleSets.{ruleSets}
+use Rattle.sheet.specs.Tests.{if_then_else_}
 use Rattle.sheet.specs.Layout.{sheetOf, inBytes}
 use Rattle.sheet.specs.Check.{sameList, sheetRules}
 use Rattle.month.specs.Month.{monthRules, statementOf}
 use Rattle.archive.specs.Record.{archiveHead}
+use Rattle.archive.specs.declared.head.Head.{Head}
+use Rattle.archive.specs.declared.head.Head.the-variants.{Wrong, Right}
 
 -- the record from byte 8 on: the sheet and its statement
 abbrev pub body : List ℕ → List ℕ
@@ -22,21 +26,27 @@ body record-bytes = drop 8 record-bytes
 abbrev pub sheetLength : List ℕ → ℕ
 sheetLength record-bytes = 48 + 32 * sheetOf (body record-bytes) .unitCount
 
--- 8 to 12 of the sheet in front, then 14 on a statement that differs in any byte
-unfoldable pub bodyRules : List ℕ → List Rule
-bodyRules bytes =
-    let s = sheetOf bytes in
-    monthRules s ++ (not (sameList (drop (48 + 32 * s .unitCount) bytes) (inBytes (statementOf s))) ⇒ BadArchive) ∷ []
+-- whose head it is: right, of the rules of an archive version, or wrong
+unfoldable pub headAmong : List RuleSet → List ℕ → Head
+headAmong [] bytes = Wrong
+headAmong (rules ∷ more) bytes = if sameList bytes (archiveHead rules) then Right rules else headAmong more bytes
 
--- 14 under 8 bytes or on a wrong head; then the sheet's 1 to 7, where 5 wants 48 + 64n; then the above
-unfoldable pub readRules : List ℕ → List Rule
-readRules record-bytes =
-    (ltb (length record-bytes) 8 || not (sameList (take 8 record-bytes) archiveHead) ⇒ BadArchive)
-    ∷ sheetRules 64 (body record-bytes)
-    ++ bodyRules (body record-bytes)
+abbrev pub headOf : List ℕ → Head
+headOf record-bytes = headAmong ruleSets (take 8 record-bytes)
+
+-- 8 to 12 of the sheet in front, then 14 on a statement that differs in any byte from the settlement by the rules
+unfoldable pub bodyRules : RuleSet → List ℕ → List Rule
+bodyRules rules bytes =
+    let s = sheetOf bytes in
+    monthRules s ++ (not (sameList (drop (48 + 32 * s .unitCount) bytes) (inBytes (statementOf rules s))) ⇒ BadArchive) ∷ []
+
+-- 14 on a wrong head, as fewer than 8 bytes are; else the sheet's 1 to 7, where 5 wants 48 + 64n, then the above by the head's rules
+unfoldable pub readRules : Head → List ℕ → List Rule
+readRules Wrong record-bytes = (true ⇒ BadArchive) ∷ []
+readRules (Right rules) record-bytes = sheetRules 64 (body record-bytes) ++ bodyRules rules (body record-bytes)
 
 unfoldable pub readOutcome : List ℕ → Outcome
-readOutcome record-bytes = firstRefusal (readRules record-bytes)
+readOutcome record-bytes = firstRefusal (readRules (headOf record-bytes) record-bytes)
 
 -- the sheet's part of the record: from byte 8, or the empty part at the record's start
 abbrev pub startOf : Outcome → ℕ

@@ -1,32 +1,21 @@
 // The reader: the check of a record, and the part of it that holds the sheet.
 ghost use mathlib.Core.Path.{_≡_};
+ghost use mathlib.Core.List.{_++_};
 ghost use Prim.Native.Nat.{_*_, _≤_};
-ghost use lib.ListN.{length, take};
+ghost use lib.ListN.{length};
 ghost use Rattle.sheet.specs.Layout.{inBytes};
 ghost use Rattle.sheet.specs.declared.refusal.Outcome.the-variants.{Accepted};
 ghost use Rattle.sheet.specs.Refusals.{firstRefusal};
-ghost use Rattle.sheet.specs.Check.{checked, sameList};
-ghost use Rattle.archive.specs.Record.{archiveHead};
+ghost use Rattle.sheet.specs.Check.{checked, sameList, sheetRules};
 ghost use Rattle.archive.specs.Reader.{bodyRules, readOutcome, SheetPart};
 ghost use Rattle.archive.specs.Inner.Lent.{Counted, WithRoom};
-use crate::head::HEAD;
+use crate::head::Head;
+use crate::head::head_of;
 use sheet::Outcome;
 use sheet::Refusal;
+use sheet::RuleSet;
 use sheet::bytes::read32;
 use sheet::header;
-
-// `HCA`, 0, version 1, two zeros.
-fn head_fits(bytes: &[u8]) -> bool
-    requires { ⌜ 8 ≤ length (now bytes) ⌝ }
-    ensures { λ r. ⌜ r ≡ sameList (take 8 (now (bytes .entry))) archiveHead ⌝ }
-{
-    for i in 0..8usize {
-        if bytes[i] != HEAD[i] {
-            return false;
-        }
-    }
-    true
-}
 
 // The bytes are the numbers, four bytes each.
 fn same_statement(bytes: &[u8], numbers: &[u32]) -> bool
@@ -42,12 +31,12 @@ fn same_statement(bytes: &[u8], numbers: &[u32]) -> bool
 }
 
 // 8 to 12 of the sheet at the front by way of a list of 8n numbers, then its statement behind it.
-fn check_in(body: &[u8], numbers: &mut [u32]) -> Outcome
+fn check_in(rules: RuleSet, body: &[u8], numbers: &mut [u32]) -> Outcome
     requires { ⌜ WithRoom 64 (now body) (now numbers) ⌝ }
-    ensures { λ r. ⌜ r ≡ firstRefusal (bodyRules (now (body .entry))) ⌝ }
+    ensures { λ r. ⌜ r ≡ firstRefusal (bodyRules rules (now (body .entry))) ⌝ }
 {
     let end = 48 + 4 * numbers.len();
-    let outcome = settlement::settle_checked(&body[..end], numbers);
+    let outcome = settlement::settle_checked(rules, &body[..end], numbers);
     let Outcome::Accepted = outcome else {
         return outcome;
     };
@@ -57,50 +46,57 @@ fn check_in(body: &[u8], numbers: &mut [u32]) -> Outcome
     Outcome::Accepted
 }
 
-fn check_up_to_16(body: &[u8], n: usize) -> Outcome
+fn check_up_to_16(rules: RuleSet, body: &[u8], n: usize) -> Outcome
     requires { ⌜ Counted 64 (now body) n × (n ≤ 16) ⌝ }
-    ensures { λ r. ⌜ r ≡ firstRefusal (bodyRules (now (body .entry))) ⌝ }
+    ensures { λ r. ⌜ r ≡ firstRefusal (bodyRules rules (now (body .entry))) ⌝ }
 {
     let mut numbers = [0u32; 128];
-    check_in(body, &mut numbers[..8 * n])
+    check_in(rules, body, &mut numbers[..8 * n])
 }
 
-fn check_up_to_160(body: &[u8], n: usize) -> Outcome
+fn check_up_to_160(rules: RuleSet, body: &[u8], n: usize) -> Outcome
     requires { ⌜ Counted 64 (now body) n × (n ≤ 160) ⌝ }
-    ensures { λ r. ⌜ r ≡ firstRefusal (bodyRules (now (body .entry))) ⌝ }
+    ensures { λ r. ⌜ r ≡ firstRefusal (bodyRules rules (now (body .entry))) ⌝ }
 {
     let mut numbers = [0u32; 1280];
-    check_in(body, &mut numbers[..8 * n])
+    check_in(rules, body, &mut numbers[..8 * n])
 }
 
 // Past 1 to 7; few units need little room.
-fn check_statement(body: &[u8]) -> Outcome
+fn check_statement(rules: RuleSet, body: &[u8]) -> Outcome
     requires { ⌜ checked 64 (now body) ≡ Accepted ⌝ }
-    ensures { λ r. ⌜ r ≡ firstRefusal (bodyRules (now (body .entry))) ⌝ }
+    ensures { λ r. ⌜ r ≡ firstRefusal (bodyRules rules (now (body .entry))) ⌝ }
 {
     let n = header::header_field(body, header::UNIT_COUNT) as usize;
     if n <= 16 {
-        return check_up_to_16(body, n);
+        return check_up_to_16(rules, body, n);
     }
-    check_up_to_160(body, n)
+    check_up_to_160(rules, body, n)
 }
 
-// Any bytes: 14, 1 to 12, 14.
+// Past the head: 1 to 12, 14.
+fn check_body(rules: RuleSet, body: &[u8]) -> Outcome
+    ensures { λ r. ⌜ r ≡ firstRefusal (sheetRules 64 (now (body .entry)) ++ bodyRules rules (now (body .entry))) ⌝ }
+{
+    let outcome = sheet::check_record_part(body);
+    let Outcome::Accepted = outcome else {
+        return outcome;
+    };
+    check_statement(rules, body)
+}
+
+// Any bytes: 14, 1 to 12, 14, by the rules of the head's version.
 pub fn check(bytes: &[u8]) -> Outcome
     ensures { λ r. ⌜ r ≡ readOutcome (now (bytes .entry)) ⌝ }
 {
     if bytes.len() < 8 {
         return Outcome::Refused(Refusal::BadArchive);
     }
-    if !head_fits(bytes) {
-        return Outcome::Refused(Refusal::BadArchive);
+    let head = head_of(bytes);
+    match head {
+        Head::Wrong => Outcome::Refused(Refusal::BadArchive),
+        Head::Right(rules) => check_body(rules, &bytes[8..]),
     }
-    let body = &bytes[8..];
-    let outcome = sheet::check_record_part(body);
-    let Outcome::Accepted = outcome else {
-        return outcome;
-    };
-    check_statement(body)
 }
 
 // The reader's answer: number and place by the outcome, and the sheet as the very part of the record that holds it.

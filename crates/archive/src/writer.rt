@@ -3,11 +3,12 @@ ghost use mathlib.Core.Path.{_≡_};
 ghost use mathlib.Core.List.{_++_};
 ghost use Prim.Native.Nat.{_+_, _*_, _≤_, _<_};
 ghost use lib.ListN.{length, take};
+ghost use Rattle.sheet.specs.RuleSets.{newest};
 ghost use Rattle.sheet.specs.Layout.{bytes32, inBytes};
 ghost use Rattle.archive.specs.Record.{archiveRecord};
 ghost use Rattle.archive.specs.Writer.{writeAnswer, recordAfter};
 ghost use Rattle.archive.specs.Inner.Lent.{Counted, WithRoom, Writes};
-use crate::head::HEAD;
+use crate::head::NEWEST_HEAD;
 use sheet::Outcome;
 use sheet::Refusal;
 use sheet::header;
@@ -46,10 +47,10 @@ fn put_numbers(numbers: &[u32], to: &mut [u8])
 fn put_record(sheet: &[u8], numbers: &[u32], out: &mut [u8])
     requires { ⌜ (length (now sheet) ≤ 5168) × (length (now numbers) ≤ 1280) ⌝ }
     requires { ⌜ length (now out) ≡ 8 + length (now sheet) + 4 * length (now numbers) ⌝ }
-    ensures { λ r. ⌜ now (out .exit) ≡ archiveRecord (now (sheet .entry)) (now (numbers .entry)) ⌝ }
+    ensures { λ r. ⌜ now (out .exit) ≡ archiveRecord newest (now (sheet .entry)) (now (numbers .entry)) ⌝ }
 {
     let end = 8 + sheet.len();
-    put_bytes(&HEAD, &mut out[..8]);
+    put_bytes(&NEWEST_HEAD, &mut out[..8]);
     put_bytes(sheet, &mut out[8..end]);
     put_numbers(numbers, &mut out[end..]);
 }
@@ -59,7 +60,7 @@ fn write_in(sheet: &[u8], numbers: &mut [u32], out: &mut [u8]) -> Outcome
     requires { ⌜ WithRoom 32 (now sheet) (now numbers) ⌝ }
     ensures { λ r. ⌜ Writes r (now (sheet .entry)) (now (out .entry)) (now (out .exit)) ⌝ }
 {
-    let outcome = settlement::settle_checked(sheet, numbers);
+    let outcome = settlement::settle_checked(sheet::NEWEST, sheet, numbers);
     let Outcome::Accepted = outcome else {
         return outcome;
     };
@@ -86,7 +87,7 @@ fn write_up_to_160(sheet: &[u8], n: usize, out: &mut [u8]) -> Outcome
     write_in(sheet, &mut numbers[..8 * n], out)
 }
 
-// The record of a sheet into a list of 56 + 64n bytes: 1 to 12, then 13. A refused call leaves the list as it was.
+// The record of a sheet, by the newest rules, into a list of 56 + 64n bytes: 1 to 12, then 13. A refused call leaves the list as it was.
 // Few units need little room.
 pub fn write(sheet: &[u8], out: &mut [u8]) -> Outcome
     ensures { λ r. ⌜ r ≡ writeAnswer (now (sheet .entry)) (now (out .entry)) ⌝ }

@@ -1,8 +1,13 @@
 -- The rules by which a month is settled, by archive version (document 02): a record is read by the rules of its own time. Each property is given by case.
 use mathlib.Core.Bool.{Bool, true, false}
+use mathlib.Core.List.{List, [], _∷_}
 use Prim.Native.Nat.{ℕ}
 use Rattle.sheet.specs.declared.rule_set.RuleSet.{RuleSet}
 use Rattle.sheet.specs.declared.rule_set.RuleSet.the-variants.{Version1, Version2}
+
+-- every version that is read
+abbrev pub ruleSets : List RuleSet
+ruleSets = Version1 ∷ Version2 ∷ []
 
 -- the number in a record's head
 abbrev pub archiveVersion : RuleSet → ℕ

@@ -38,7 +38,7 @@ returns : tie.Need-returns
 returns c =
     let st = c .before .before .before .before .before .before .before .before .before in
     let o = c .before .before .before .before .settle-checked in
-    refused-body (st .args .body .now) (st .args .numbers .now) (st .pre) _ refl (o .result) (o .ensures .0) _ (c .enum-told2 .given .1)
+    refused-body (st .args .body .now) (st .args .numbers .now) (st .pre) _ refl (st .args .rules) (o .result) (o .ensures .0) _ (c .enum-told2 .given .1)
 
 sub-same-statement : tie.Need-sub-same-statement
 sub-same-statement c = let st = c .before .before .before .before .before .before .before .before .before in omega (arith, cut-long (st .args .body .now) (st .args .numbers .now) (st .pre) _ refl)
@@ -66,7 +66,7 @@ returns-2 c =
     let st = c .before .before .before .before .before .before .before .before .before .before .before .before .before in
     let o = c .before .before .before .before .before .before .before .before .settle-checked in
     let t = c .before .same-statement in
-    rw (c .if1 .taken) at (by-statement (st .args .body .now) (st .args .numbers .now) (st .pre) _ refl (o .result) (o .ensures .0) (c .before .before .before .before .enum-told .given .1) _ (o .ensures .1) (t .result) (t .ensures))
+    rw (c .if1 .taken) at (by-statement (st .args .body .now) (st .args .numbers .now) (st .pre) _ refl (st .args .rules) (o .result) (o .ensures .0) (c .before .before .before .before .enum-told .given .1) _ (o .ensures .1) (t .result) (t .ensures))
 
 same-length-3 : tie.Need-same-length-3
 same-length-3 c = search needs
@@ -77,7 +77,7 @@ returns-3 c =
     let st = c .before .before .before .before .before .before .before .before .before .before .before .before .before in
     let o = c .before .before .before .before .before .before .before .before .settle-checked in
     let t = c .before .same-statement in
-    rw (c .if1 .left) at (by-statement (st .args .body .now) (st .args .numbers .now) (st .pre) _ refl (o .result) (o .ensures .0) (c .before .before .before .before .enum-told .given .1) _ (o .ensures .1) (t .result) (t .ensures))
+    rw (c .if1 .left) at (by-statement (st .args .body .now) (st .args .numbers .now) (st .pre) _ refl (st .args .rules) (o .result) (o .ensures .0) (c .before .before .before .before .enum-told .given .1) _ (o .ensures .1) (t .result) (t .ensures))
 
 pub check-in-spec : {M : Type 1} → statement M
 check-in-spec =
