@@ -36,6 +36,16 @@ pub fn case_a_with_readings(readings: [u32; 3]) -> Sheet {
     sheet
 }
 
+/// Request 2026-01: C as model 4, with riser surfaces.
+pub fn case_c_by_risers(risers: [u32; 3]) -> Sheet {
+    let mut sheet = case_a_with_readings([1_000, 0, 0]);
+    sheet.header.model = 4;
+    for (unit, riser_surface) in sheet.units.iter_mut().zip(risers) {
+        unit.riser_surface = riser_surface;
+    }
+    sheet
+}
+
 /// D: A, the first unit without a device.
 pub fn case_d() -> Sheet {
     let mut sheet = case_a();

@@ -27,15 +27,17 @@ pub fn sheet_at_an_end(rng: &mut Rng) -> Vec<u8> {
     bytes
 }
 
-/// A sheet at the border of refusal 7, 8, 11 or 12, or with equal units.
+/// A sheet at the border of refusal 7, 8, 11 or 12, at a limit of step 4, or
+/// with equal units.
 pub fn border_sheet(rng: &mut Rng) -> Vec<u8> {
     let mut sheet = random_sheet(rng);
-    match rng.below(6) {
+    match rng.below(7) {
         0 => meter_near_water(rng, &mut sheet),
         1 => meter_near_readings(rng, &mut sheet),
         2 => rest_near_zero(rng, &mut sheet),
         3 => bill_near_half(rng, &mut sheet),
         4 => id_near_the_one_before(rng, &mut sheet),
+        5 => reading_near_limit(rng, &mut sheet),
         _ => equal_units(rng, &mut sheet),
     }
     build_sheet(&sheet)
@@ -84,6 +86,37 @@ fn rest_near_zero(rng: &mut Rng, sheet: &mut Sheet) {
     first.heated_area = area as u32;
     second.status = 0;
     second.heated_area = near(rng, 2 * area).max(1);
+}
+
+/// Two units of model 3 or 4, the first next to one of its limits.
+fn reading_near_limit(rng: &mut Rng, sheet: &mut Sheet) {
+    if sheet.units.len() < 2 {
+        return;
+    }
+    sheet.header.model = rng.between(3, 4) as u8;
+    sheet.header.base_percent = 20;
+    sheet.header.unmetered_factor = 30;
+    sheet.header.unit_count = 2;
+    sheet.units.truncate(2);
+    // 80 × b × A + 20 × p × B is 300 × p × B where the second unit has six
+    // times the area and an equal reading, 40 × p × B where it has an equal
+    // area and seven times the reading.
+    let (area, reading) = (rng.between(1, 1_000), rng.between(1, 7_000));
+    let (areas, readings) = if rng.once_in(2) {
+        ([area, 6 * area], [reading, reading])
+    } else {
+        ([area, area], [reading, 7 * reading])
+    };
+    for (place, unit) in sheet.units.iter_mut().enumerate() {
+        unit.status = 0;
+        unit.reading = readings[place] as u32;
+        if sheet.header.model == 3 {
+            unit.heated_area = areas[place] as u32;
+        } else {
+            unit.riser_surface = areas[place] as u32;
+        }
+    }
+    sheet.units[0].reading = near(rng, reading);
 }
 
 /// M and price whose product ends in half a cent.

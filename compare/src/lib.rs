@@ -1,6 +1,7 @@
-//! An independent implementation of document 01 in plain Rust.
+//! An independent implementation of document 01 in plain Rust, with request
+//! 2026-01.
 //!
-//! It was written from the document alone and shares no code with the product.
+//! It was written from the documents alone and shares no code with the product.
 //! Nothing here is proved. It makes the stored vectors of the gate, and it is
 //! the other side when the product is compared on random and damaged input.
 //!
@@ -16,10 +17,11 @@
 //!   number and place.
 //! - `cargo run --release --bin month_vectors FOLDER`: whole months, vectors as
 //!   before; the lines are those of "Printing".
-//! - `cargo run --release --bin record_vectors FOLDER`: archive records,
-//!   vectors as before; a line is number and place or `0 0`, the length of the
-//!   sheet's part, and 1 where that sheet's record is the vector, else 0. The
-//!   first vector is case A's record.
+//! - `cargo run --release --bin record_vectors FOLDER [STORED]`: archive
+//!   records, vectors as before; a line is number and place or `0 0`, the length
+//!   of the sheet's part, and 1 where that sheet's record is the vector, else 0.
+//!   The first vector is case A's record. Into STORED go records of every
+//!   version that must stay readable, one after the other, without the 1 or 0.
 //! - `cargo run --release --bin book_vectors FOLDER`: "Year book". A vector is
 //!   a call on one list: its kind (8 bits: open, post, replace, withdraw, year)
 //!   and a sheet as before, or a month or place (32 bits); kind 5 writes a
@@ -28,7 +30,7 @@
 //!
 //! All numbers in `stdin` are little-endian. `cargo test --release` runs the
 //! document's cases and the random checks. `compare/run` compares the library
-//! with this crate, and with a copy of it under wrong readings of the document
+//! with this crate, and with a copy of it under wrong readings of the documents
 //! (`compare/wrong`), which it must find; `fast` is the form that the library's
 //! times stand beside.
 
@@ -46,6 +48,7 @@ pub mod ranges;
 pub mod record;
 pub mod refusal;
 pub mod rng;
+pub mod rules;
 pub mod samples;
 pub mod settle;
 pub mod sheet;

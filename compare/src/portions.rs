@@ -1,6 +1,7 @@
 //! Document 01, end of "Steps of a month": the unrounded portions, and the
 //! check of an accepted sheet's statement against them.
 
+use crate::rules::RuleSet;
 use crate::settle::Outcome;
 use crate::sheet::Sheet;
 use crate::weights::*;
@@ -82,7 +83,7 @@ impl Fraction {
 
 /// Per unit the unrounded heat, common heat, water and common water of a sheet
 /// that settles.
-pub fn portions(sheet: &Sheet) -> Vec<[Fraction; 4]> {
+pub fn portions(sheet: &Sheet, rules: RuleSet) -> Vec<[Fraction; 4]> {
     let (upper, lower) = hot_water(&sheet.header);
     let hot_water = Fraction::new(upper, lower);
     let meter = Fraction::new(u64::from(sheet.header.shared_meter_wh), 1);
@@ -97,7 +98,7 @@ pub fn portions(sheet: &Sheet) -> Vec<[Fraction; 4]> {
         (heat, space_heat.minus(&metered_sum))
     } else {
         let (unit_heat, common_heat) = split(&space_heat, sheet.header.common_heat_percent);
-        (heat_portions(sheet, &unit_heat), common_heat)
+        (heat_portions(sheet, &unit_heat, rules), common_heat)
     };
     let (unit_water, common_water) = split(&hot_water, sheet.header.common_water_percent);
 
@@ -116,7 +117,7 @@ fn split(total: &Fraction, percent: u8) -> (Fraction, Fraction) {
 }
 
 /// Steps 3 and 4 without rounding.
-fn heat_portions(sheet: &Sheet, unit_heat: &Fraction) -> Vec<Fraction> {
+fn heat_portions(sheet: &Sheet, unit_heat: &Fraction, rules: RuleSet) -> Vec<Fraction> {
     match sheet.header.model {
         1 => return unit_heat.divide(&column(sheet, heat_load)),
         2 => return unit_heat.divide(&column(sheet, heated_area)),
@@ -130,7 +131,7 @@ fn heat_portions(sheet: &Sheet, unit_heat: &Fraction) -> Vec<Fraction> {
         pool_weight -= weight;
     }
     let metered_pool = unit_heat.part(pool_weight, whole_weight);
-    let parts = metered_pool.divide(&read_weights(sheet));
+    let parts = metered_pool.divide(&read_weights(sheet, rules));
     for (place, part) in read_places(sheet).into_iter().zip(parts) {
         heat[place] = part;
     }
@@ -140,7 +141,11 @@ fn heat_portions(sheet: &Sheet, unit_heat: &Fraction) -> Vec<Fraction> {
 /// Checks a statement: the energies add to M, the cents to the bill, each
 /// energy is within 4 Wh of its unrounded portion, each cent amount within 1
 /// of the bill's part. The error names the promise that fails.
-pub fn check_statement(sheet: &Sheet, outcome: &Outcome) -> Result<(), &'static str> {
+pub fn check_statement(
+    sheet: &Sheet,
+    outcome: &Outcome,
+    rules: RuleSet,
+) -> Result<(), &'static str> {
     let units: Vec<&[u32]> = outcome.numbers.chunks(8).collect();
     let add = |range: std::ops::Range<usize>| -> u64 {
         let numbers = units.iter().flat_map(|unit| &unit[range.clone()]);
@@ -155,7 +160,7 @@ pub fn check_statement(sheet: &Sheet, outcome: &Outcome) -> Result<(), &'static 
         add(4..8) == u64::from(outcome.bill_cents),
         "cents add to the bill",
     )?;
-    for (unit, portions) in units.iter().zip(portions(sheet)) {
+    for (unit, portions) in units.iter().zip(portions(sheet, rules)) {
         for kind in 0..4 {
             let (wh, cents) = (u64::from(unit[kind]), u64::from(unit[4 + kind]));
             require(portions[kind].is_within(4, wh), "energy near its portion")?;

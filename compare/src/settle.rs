@@ -2,6 +2,7 @@
 
 use crate::apportion::apportion;
 use crate::refusal::*;
+use crate::rules::{RuleSet, NEWEST};
 use crate::sheet::{check, read_sheet, Sheet, ROW_BYTES};
 use crate::weights::*;
 
@@ -26,14 +27,14 @@ pub fn settle(bytes: &[u8], list_len: usize) -> Result<Outcome, Refusal> {
 /// Settles a sheet: refusals 1 to 12.
 pub fn settle_bytes(bytes: &[u8]) -> Result<Outcome, Refusal> {
     check(bytes, ROW_BYTES)?;
-    settle_sheet(&read_sheet(bytes))
+    settle_sheet(&read_sheet(bytes), NEWEST)
 }
 
 /// Settles a sheet that passed the check: refusals 8 to 12.
-pub fn settle_sheet(sheet: &Sheet) -> Result<Outcome, Refusal> {
+pub fn settle_sheet(sheet: &Sheet, rules: RuleSet) -> Result<Outcome, Refusal> {
     check_month(sheet)?;
     let bill_cents = bill(sheet);
-    let energies = energies(sheet);
+    let energies = energies(sheet, rules);
     let costs = costs(bill_cents, &energies);
     Ok(Outcome {
         month: sheet.header.month,
@@ -128,14 +129,14 @@ fn split(total: u64, percent: u8) -> (u64, u64) {
 }
 
 /// Steps 2 to 6: per unit heat, common heat, water, common water.
-fn energies(sheet: &Sheet) -> Vec<[u32; 4]> {
+fn energies(sheet: &Sheet, rules: RuleSet) -> Vec<[u32; 4]> {
     let (heat, common_heat) = if all_metered(sheet) {
         let heat = sheet.units.iter().map(|unit| unit.reading).collect();
         (heat, space_heat(sheet) - sum(&sheet.units, reading))
     } else {
         let percent = sheet.header.common_heat_percent;
         let (unit_heat, common_heat) = split(space_heat(sheet), percent);
-        (heat_parts(sheet, unit_heat), common_heat)
+        (heat_parts(sheet, unit_heat, rules), common_heat)
     };
     let percent = sheet.header.common_water_percent;
     let (unit_water, common_water) = split(hot_water_wh(sheet), percent);
@@ -149,16 +150,16 @@ fn energies(sheet: &Sheet) -> Vec<[u32; 4]> {
 }
 
 /// Steps 3 and 4: each unit's heat.
-fn heat_parts(sheet: &Sheet, unit_heat: u64) -> Vec<u32> {
+fn heat_parts(sheet: &Sheet, unit_heat: u64, rules: RuleSet) -> Vec<u32> {
     match sheet.header.model {
         1 | 2 => apportion(unit_heat, &unmetered_model_weights(sheet)),
-        _ => metered_heat_parts(sheet, unit_heat),
+        _ => metered_heat_parts(sheet, unit_heat, rules),
     }
 }
 
 /// Steps 3 and 4, models 3 to 5: first the units not read with the metered
 /// pool ("the rest") as last item, then the pool over the read units.
-fn metered_heat_parts(sheet: &Sheet, unit_heat: u64) -> Vec<u32> {
+fn metered_heat_parts(sheet: &Sheet, unit_heat: u64, rules: RuleSet) -> Vec<u32> {
     let mut heat = vec![0; sheet.units.len()];
     let mut weights = unread_weights(sheet);
     weights.push(whole_weight(sheet) - weights.iter().sum::<u64>());
@@ -167,7 +168,7 @@ fn metered_heat_parts(sheet: &Sheet, unit_heat: u64) -> Vec<u32> {
     for (place, part) in unread_places(sheet).into_iter().zip(parts) {
         heat[place] = part;
     }
-    let parts = apportion(u64::from(metered_pool), &read_weights(sheet));
+    let parts = apportion(u64::from(metered_pool), &read_weights(sheet, rules));
     for (place, part) in read_places(sheet).into_iter().zip(parts) {
         heat[place] = part;
     }

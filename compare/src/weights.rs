@@ -3,6 +3,7 @@
 //! These are whole numbers taken from the sheet alone. The settlement and the
 //! unrounded portions both use them.
 
+use crate::rules::RuleSet;
 use crate::sheet::{Header, Sheet, Unit};
 
 /// Step 1: hot water before rounding, as upper and lower number of a fraction.
@@ -128,33 +129,46 @@ fn basis(sheet: &Sheet, unit: &Unit) -> u64 {
 }
 
 /// Step 4: the weights of the read units, models 3 to 5.
-pub fn read_weights(sheet: &Sheet) -> Vec<u64> {
+pub fn read_weights(sheet: &Sheet, rules: RuleSet) -> Vec<u64> {
     let sums = ReadSums {
         readings: sum(read_units(sheet), reading),
         basis: read_units(sheet).map(|unit| basis(sheet, unit)).sum(),
     };
     read_units(sheet)
-        .map(|unit| read_weight(sheet, unit, sums))
+        .map(|unit| read_weight(sheet, unit, sums, rules))
         .collect()
 }
 
-fn read_weight(sheet: &Sheet, unit: &Unit, sums: ReadSums) -> u64 {
+fn read_weight(sheet: &Sheet, unit: &Unit, sums: ReadSums, rules: RuleSet) -> u64 {
+    let basis = basis(sheet, unit);
     if sums.readings == 0 {
-        return basis(sheet, unit) * location_factor(unit);
+        return basis * location_factor(unit);
     }
     if sheet.header.model == 5 {
         return reading(unit);
     }
     let base_percent = u64::from(sheet.header.base_percent);
-    let mut r = (100 - base_percent) * reading(unit) * sums.basis
-        + base_percent * basis(sheet, unit) * sums.readings;
-    if sheet.header.model == 3 {
-        // Article 8 (6), (7).
-        let limit_upper = 300 * heated_area(unit) * sums.readings;
-        let limit_lower = 40 * heated_area(unit) * sums.readings;
-        r = r.min(limit_upper).max(limit_lower);
+    let mut r =
+        (100 - base_percent) * reading(unit) * sums.basis + base_percent * basis * sums.readings;
+    if has_limits(sheet, unit, rules) {
+        r = limited(r, basis * sums.readings);
     }
     r * location_factor(unit)
+}
+
+/// Step 4: whether a unit's r has limits; in model 4 by request 2026-01.
+pub fn has_limits(sheet: &Sheet, unit: &Unit, rules: RuleSet) -> bool {
+    match sheet.header.model {
+        3 => true,
+        4 => rules.limits_risers() && riser_surface(unit) > 0,
+        _ => false,
+    }
+}
+
+/// Step 4: r between the limits (article 8 (6), (7)). `base` is p × B, for
+/// model 4 s × B.
+pub fn limited(r: u64, base: u64) -> u64 {
+    r.min(300 * base).max(40 * base)
 }
 
 /// Step 5 (article 11): by p over all units.

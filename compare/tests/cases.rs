@@ -1,21 +1,33 @@
-//! Document 01's cases A to L and the printed output of A.
+//! Document 01's cases A to L by every version's rules, the printed output of A,
+//! and case C as model 4 (request 2026-01).
 
 use compare::apportion::apportion;
+use compare::book::{self, BOOK_LEN};
 use compare::cases::*;
 use compare::print::{print_into, print_statement};
-use compare::settle::{hot_water_wh, settle_bytes, Outcome};
+use compare::rules::{RuleSet, NEWEST};
+use compare::settle::{hot_water_wh, settle, settle_bytes, settle_sheet, Outcome};
 use compare::sheet::{build_sheet, Sheet};
 
+/// What a case settles to, by every version's rules alike.
 fn settled(sheet: &Sheet) -> Outcome {
-    settle_bytes(&build_sheet(sheet)).expect("the case settles")
+    let outcome = settle_bytes(&build_sheet(sheet)).expect("the case settles");
+    for rules in RuleSet::ALL {
+        assert_eq!(settle_sheet(sheet, rules).as_ref(), Ok(&outcome));
+    }
+    outcome
+}
+
+fn heats_of(outcome: Outcome) -> Vec<u32> {
+    outcome.numbers.chunks(8).map(|unit| unit[0]).collect()
 }
 
 fn heats(sheet: &Sheet) -> Vec<u32> {
-    settled(sheet)
-        .numbers
-        .chunks(8)
-        .map(|unit| unit[0])
-        .collect()
+    heats_of(settled(sheet))
+}
+
+fn heats_by(rules: RuleSet, sheet: &Sheet) -> Vec<u32> {
+    heats_of(settle_sheet(sheet, rules).expect("the case settles"))
 }
 
 #[test]
@@ -65,8 +77,10 @@ fn case_d_by_hand() {
 #[test]
 fn cases_e_and_f() {
     assert_eq!(heats(&two_units(30)), [800_000, 0]);
-    let refusal = settle_bytes(&build_sheet(&two_units(31))).unwrap_err();
-    assert_eq!((refusal.number, refusal.place), (12, 0));
+    for rules in RuleSet::ALL {
+        let refusal = settle_sheet(&two_units(31), rules).unwrap_err();
+        assert_eq!((refusal.number, refusal.place), (12, 0));
+    }
 }
 
 #[test]
@@ -77,12 +91,78 @@ fn cases_g_and_h() {
 
 #[test]
 fn cases_i_and_j() {
-    assert_eq!(hot_water_wh(&water_by_volume(51, 1)), 82);
-    assert_eq!(hot_water_wh(&water_by_summer([1_000; 6])), 1_150);
+    for (sheet, wh) in [
+        (water_by_volume(51, 1), 82),
+        (water_by_summer([1_000; 6]), 1_150),
+    ] {
+        assert_eq!(hot_water_wh(&sheet), wh);
+        let outcome = settled(&sheet);
+        let water = outcome.numbers.chunks(8).map(|unit| unit[2] + unit[3]);
+        assert_eq!(u64::from(water.sum::<u32>()), wh);
+    }
 }
 
 #[test]
 fn cases_k_and_l() {
     assert_eq!(settled(&case_a_with_meter(50)).bill_cents, 1);
     assert_eq!(settled(&case_a_with_meter(49)).bill_cents, 0);
+}
+
+#[test]
+fn case_c_as_model_4() {
+    let sheet = case_c_by_risers([50, 50, 100]);
+    assert_eq!(
+        heats_by(RuleSet::Version1, &sheet),
+        [620_000, 60_000, 120_000]
+    );
+    assert_eq!(
+        heats_by(RuleSet::Version2, &sheet),
+        [571_429, 76_190, 152_381]
+    );
+    let sheet = case_c_by_risers([0, 50, 100]);
+    assert_eq!(
+        heats_by(RuleSet::Version1, &sheet),
+        [560_000, 80_000, 160_000]
+    );
+    assert_eq!(
+        heats_by(RuleSet::Version2, &sheet),
+        [509_091, 96_970, 193_939]
+    );
+}
+
+#[test]
+fn limits_of_model_4_stand_before_the_location_factor() {
+    // r is 300, 40 and 80 × 50 × B, the first weight half of it.
+    let mut sheet = case_c_by_risers([50, 50, 100]);
+    sheet.units[0].location_factor = 500;
+    assert_eq!(
+        heats_by(RuleSet::Version2, &sheet),
+        [444_444, 118_519, 237_037]
+    );
+}
+
+#[test]
+fn model_4_without_readings_has_no_limits() {
+    let mut sheet = case_c_by_risers([50, 0, 100]);
+    sheet.units[0].reading = 0;
+    sheet.units[2].location_factor = 250;
+    assert_eq!(heats(&sheet), [533_333, 0, 266_667]);
+}
+
+#[test]
+fn entry_points_go_by_the_newest_rules() {
+    assert_eq!(NEWEST, RuleSet::Version2);
+    let sheet = case_c_by_risers([50, 50, 100]);
+    let newest = settle_sheet(&sheet, NEWEST).unwrap();
+    let bytes = build_sheet(&sheet);
+    assert_eq!(settle_bytes(&bytes).as_ref(), Ok(&newest));
+    assert_eq!(settle(&bytes, 24).as_ref(), Ok(&newest));
+    let text = print_statement(&bytes);
+    assert!(text.contains("\n11 571429 "), "{text}");
+    let mut book = vec![0; BOOK_LEN];
+    book::open(&mut book, &bytes).unwrap();
+    book::post(&mut book, &bytes).unwrap();
+    assert_eq!(book[197..221], newest.numbers);
+    book::replace(&mut book, &bytes).unwrap();
+    assert_eq!(book[197..221], newest.numbers);
 }

@@ -4,6 +4,7 @@ use compare::book::{self, BOOK_LEN};
 use compare::damage::damaged_sheet;
 use compare::edges::{border_sheet, sheet_at_an_end};
 use compare::rng::Rng;
+use compare::rules::RuleSet;
 use compare::samples::random_sheet;
 use compare::sheet::{build_sheet, get_u16};
 use compare::{apportion, fast, print, record, settle};
@@ -62,8 +63,15 @@ fn records() {
         let expected = record::write_record(&sheet, &mut plain);
         assert_eq!(fast::record::write(&sheet, &mut other), expected);
         assert_eq!(other, plain);
+        if let (0, Ok(record)) = (rng.below(3), record::record_of(&sheet, RuleSet::Version1)) {
+            plain = record;
+        }
         if rng.once_in(2) {
-            plain[rng.below(len as u64) as usize] ^= 1;
+            plain[4] = rng.below(4) as u8;
+        }
+        if rng.once_in(4) {
+            let place = rng.below(plain.len() as u64) as usize;
+            plain[place] ^= 1;
         }
         let expected = record::read_record(&plain);
         match fast::record::read(&plain) {

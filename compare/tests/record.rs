@@ -1,13 +1,14 @@
-//! "Archive record": writing, reading back, damage.
+//! "Archive record": writing, reading back, damage, versions.
 
-use compare::cases::case_a;
-use compare::damage::damage;
-use compare::record::{read_record, write_record, RecordAnswer};
+use compare::cases::*;
+use compare::damage::{damage, put};
+use compare::record::{head, read_record, write_record, RecordAnswer};
 use compare::refusal::Refusal;
 use compare::rng::Rng;
-use compare::samples::random_sheet;
+use compare::rules::{RuleSet, NEWEST};
+use compare::samples::{good_sheet, random_sheet};
 use compare::settle::settle_bytes;
-use compare::sheet::build_sheet;
+use compare::sheet::{build_sheet, Sheet};
 
 fn refused(number: u32, place: u32) -> RecordAnswer {
     RecordAnswer {
@@ -18,9 +19,26 @@ fn refused(number: u32, place: u32) -> RecordAnswer {
     }
 }
 
+fn accepted(unit_count: usize) -> RecordAnswer {
+    RecordAnswer {
+        number: 0,
+        place: 0,
+        part_start: 8,
+        part_length: 48 + 32 * unit_count,
+    }
+}
+
 fn record_of(sheet: &[u8], unit_count: usize) -> Vec<u8> {
     let mut record = vec![0xaa; 56 + 64 * unit_count];
     write_record(sheet, &mut record).expect("the sheet settles");
+    record
+}
+
+/// A sheet's record with the numbers of one version and the head of another.
+fn mixed(sheet: &Sheet, numbers: RuleSet, named: RuleSet) -> Vec<u8> {
+    let record = compare::record::record_of(&build_sheet(sheet), numbers);
+    let mut record = record.expect("the sheet settles");
+    record[..8].copy_from_slice(&head(named));
     record
 }
 
@@ -29,16 +47,10 @@ fn case_a_comes_back() {
     let sheet = build_sheet(&case_a());
     let record = record_of(&sheet, 3);
     assert_eq!(record.len(), 248);
-    assert_eq!(record[..8], [72, 67, 65, 0, 1, 0, 0, 0]);
+    assert_eq!(record[..8], [72, 67, 65, 0, 2, 0, 0, 0]);
     assert_eq!(record[8..152], sheet);
     assert_eq!(record[152..156], 116_000u32.to_le_bytes());
-    let answer = RecordAnswer {
-        number: 0,
-        place: 0,
-        part_start: 8,
-        part_length: 144,
-    };
-    assert_eq!(read_record(&record), answer);
+    assert_eq!(read_record(&record), accepted(3));
 }
 
 #[test]
@@ -128,4 +140,81 @@ fn single_bits_of_case_a_that_are_not_found() {
     let row = |place: usize| [0..4, 12..20].iter().any(|field| field.contains(&place));
     let named = |place: usize| header(place) || place >= 48 && row((place - 48) % 32);
     assert!(passed.iter().all(|&byte| named(byte - 8)));
+}
+
+#[test]
+fn numbers_are_those_of_the_version_that_the_head_names() {
+    for risers in [[50, 50, 100], [0, 50, 100]] {
+        let sheet = case_c_by_risers(risers);
+        for numbers in RuleSet::ALL {
+            for named in RuleSet::ALL {
+                let answer = read_record(&mixed(&sheet, numbers, named));
+                let expected = if named == numbers {
+                    accepted(3)
+                } else {
+                    refused(14, 0)
+                };
+                assert_eq!(answer, expected, "{numbers:?} under {named:?}");
+            }
+        }
+        let written = record_of(&build_sheet(&sheet), 3);
+        assert_eq!(written, mixed(&sheet, NEWEST, NEWEST));
+    }
+}
+
+#[test]
+fn numbers_that_do_not_differ_pass_under_both_heads() {
+    for sheet in [case_a(), case_d(), good_sheet(4, 1), good_sheet(5, 3)] {
+        for numbers in RuleSet::ALL {
+            for named in RuleSet::ALL {
+                let record = mixed(&sheet, numbers, named);
+                assert_eq!(read_record(&record), accepted(3), "{named:?}");
+            }
+        }
+    }
+}
+
+#[test]
+fn other_versions_are_wrong_heads() {
+    let mut record = record_of(&build_sheet(&case_a()), 3);
+    for version in [0, 3, 4, 256, 257, 258, 512, 513, 65_535] {
+        put(&mut record, (4, 2), version);
+        assert_eq!(read_record(&record), refused(14, 0), "version {version}");
+        // 14's head comes before the sheet.
+        assert_eq!(read_record(&record[..9]), refused(14, 0));
+    }
+}
+
+#[test]
+fn sheets_are_refused_alike_in_both_versions() {
+    let no_risers = case_c_by_risers([0, 0, 0]);
+    let mut bad_row = case_c_by_risers([0, 50, 100]);
+    bad_row.units[1].location_factor = 0;
+    for rules in RuleSet::ALL {
+        for (sheet, expected) in [
+            (&two_units(31), refused(12, 0)),
+            (&no_risers, refused(9, 0)),
+            (&bad_row, refused(6, 1)),
+        ] {
+            let mut record = [&head(rules)[..], &build_sheet(sheet)].concat();
+            record.resize(56 + 64 * sheet.units.len(), 0);
+            assert_eq!(read_record(&record), expected, "{rules:?}");
+        }
+    }
+}
+
+/// crates/stored_record: records that every version must read.
+#[test]
+fn stored_records_are_read() {
+    let stored = include_bytes!("../../crates/stored_record/stdin");
+    let risers = case_c_by_risers([50, 50, 100]);
+    let expected = [
+        mixed(&case_a(), RuleSet::Version1, RuleSet::Version1),
+        mixed(&risers, RuleSet::Version1, RuleSet::Version1),
+        mixed(&risers, RuleSet::Version2, RuleSet::Version2),
+    ];
+    assert_eq!(stored[..], expected.concat());
+    for record in stored.chunks(248) {
+        assert_eq!(read_record(record), accepted(3));
+    }
 }

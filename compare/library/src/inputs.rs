@@ -1,9 +1,10 @@
 //! Random inputs: sheets, damaged sheets, records, books.
 
-use compare::damage::{damage, damaged_sheet};
+use compare::damage::{damage, damaged_sheet, put};
 use compare::edges::{border_sheet, sheet_at_an_end};
-use compare::record::HEAD;
+use compare::record::{head, named_rules, record_of};
 use compare::rng::Rng;
+use compare::rules::RuleSet;
 use compare::samples::random_sheet;
 use compare::sheet::{build_sheet, get_u16};
 
@@ -36,17 +37,16 @@ pub fn list_len(rng: &mut Rng, right: usize) -> usize {
     }
 }
 
-/// A record for the reader: one that was written, or the sheet's with any
-/// statement; then perhaps damaged.
+/// A record for the reader: one that was written, the sheet's of some version,
+/// or the sheet's with any statement; then perhaps damaged.
 pub fn record_to_read(rng: &mut Rng, sheet: &[u8], written: Vec<u8>) -> Vec<u8> {
-    let mut record = written;
-    if !record.starts_with(&HEAD) || rng.once_in(6) {
-        record = [&HEAD, sheet].concat();
-        let rows = sheet.len().saturating_sub(48);
-        let statement = (0..rows).map(|_| rng.draw() as u8);
-        record.extend(statement);
-    }
-    match rng.below(8) {
+    let settled = named_rules(&written).is_some();
+    let mut record = match rng.below(8) {
+        0..=1 if settled => written,
+        2..=6 if settled => record_of_version(rng, sheet),
+        _ => record_of_nothing(rng, sheet),
+    };
+    match rng.below(10) {
         0 => damage(rng, &mut record),
         1 if !record.is_empty() => {
             let place = rng.below(record.len() as u64) as usize;
@@ -61,6 +61,33 @@ pub fn record_to_read(rng: &mut Rng, sheet: &[u8], written: Vec<u8>) -> Vec<u8> 
         _ => {}
     }
     record
+}
+
+/// Versions that no head has; two of them have the lower byte of one that has.
+const WRONG_VERSIONS: [u64; 6] = [0, 3, 256, 257, 258, 512];
+
+/// A settled sheet's record with the numbers of some version, under the head of
+/// some version or under a wrong one.
+fn record_of_version(rng: &mut Rng, sheet: &[u8]) -> Vec<u8> {
+    let mut record = record_of(sheet, random_rules(rng)).expect("the sheet settles");
+    match rng.below(6) {
+        0..=3 => record[..8].copy_from_slice(&head(random_rules(rng))),
+        4 => put(&mut record, (4, 2), WRONG_VERSIONS[rng.below(6) as usize]),
+        _ => {}
+    }
+    record
+}
+
+/// The sheet, settled or not, with random bytes for its statement.
+fn record_of_nothing(rng: &mut Rng, sheet: &[u8]) -> Vec<u8> {
+    let mut record = [&head(random_rules(rng)), sheet].concat();
+    let rows = sheet.len().saturating_sub(48);
+    record.extend((0..rows).map(|_| rng.draw() as u8));
+    record
+}
+
+fn random_rules(rng: &mut Rng) -> RuleSet {
+    RuleSet::ALL[rng.below(RuleSet::ALL.len() as u64) as usize]
 }
 
 /// A book of random contents, mostly with a right n and right marks, and

@@ -3,7 +3,7 @@
 //!
 //! - `compare ROUNDS SEED`: every call on random and damaged inputs, answers
 //!   and every element of every list, refused calls included;
-//! - `mutants ROUNDS SEED`: the same with each wrong reading of document 01
+//! - `mutants ROUNDS SEED`: the same with each wrong reading of the documents
 //!   (`compare/wrong`) in the place of the right one; each must be found;
 //! - `bench SEED`: times beside those of the fast form;
 //! - `repeat SIDE UNITS MODEL TIMES`: forty fixed sheets settled by one side

@@ -5,6 +5,7 @@ use super::month::Month;
 use super::rows::{check_and_sum, Row};
 use crate::book::*;
 use crate::refusal::*;
+use crate::rules::NEWEST;
 
 pub fn open(list: &mut [u32], sheet: &[u8]) -> Result<(), Refusal> {
     refuse_if(list.len() != BOOK_LEN, BAD_YEAR_BOOK)?;
@@ -29,7 +30,7 @@ pub fn replace(list: &mut [u32], sheet: &[u8]) -> Result<(), Refusal> {
 
 fn enter(list: &mut [u32], sheet: &[u8], mark: u32) -> Result<(), Refusal> {
     check_book(list)?;
-    let month = Month::of(sheet, 32)?;
+    let month = Month::of(sheet, 32, NEWEST)?;
     let count = month.rows.len();
     let ids = month.rows.iter().map(|row| Row(row).id() as u32);
     let same = list[UNIT_COUNT] as usize == count && ids.eq(list[IDS..IDS + count].iter().copied());

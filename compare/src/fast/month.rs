@@ -4,6 +4,7 @@ use super::dividing::divide;
 use super::header::Header;
 use super::rows::{check_and_sum, Row, Sums};
 use crate::refusal::*;
+use crate::rules::RuleSet;
 
 /// A month that is not refused.
 pub struct Month<'a> {
@@ -11,12 +12,13 @@ pub struct Month<'a> {
     pub rows: &'a [[u8; 32]],
     sums: Sums,
     hot_water_wh: u64,
+    rules: RuleSet,
 }
 
 impl<'a> Month<'a> {
     /// Refusals 1 to 12. `unit_bytes` is 64 where the statement is behind the
     /// rows, else 32.
-    pub fn of(bytes: &'a [u8], unit_bytes: usize) -> Result<Month<'a>, Refusal> {
+    pub fn of(bytes: &'a [u8], unit_bytes: usize, rules: RuleSet) -> Result<Month<'a>, Refusal> {
         let header = Header::of(bytes, unit_bytes)?;
         let (rows, _) = bytes[48..48 + 32 * header.unit_count].as_chunks::<32>();
         let sums = check_and_sum(&header, rows)?;
@@ -26,6 +28,7 @@ impl<'a> Month<'a> {
             rows,
             sums,
             hot_water_wh,
+            rules,
         };
         month.check()?;
         Ok(month)
@@ -180,6 +183,7 @@ impl<'a> Month<'a> {
         let sums = &self.sums;
         let v = self.header.base_percent;
         let by_reading = 100 - v;
+        let limits_risers = self.rules.limits_risers();
         let rows = self.rows.iter().map(Row).filter(|row| row.status() == 0);
         let read = weights.iter_mut().zip(rows);
         match (self.header.model, sums.readings) {
@@ -187,17 +191,23 @@ impl<'a> Month<'a> {
             (_, 0) => read.for_each(|(w, row)| *w = row.heated_area() * row.location_factor()),
             (5, _) => read.for_each(|(w, row)| *w = row.reading()),
             (4, readings) => read.for_each(|(w, row)| {
-                let r = by_reading * sums.read_riser * row.reading()
-                    + v * readings * row.riser_surface();
-                *w = r * row.location_factor();
+                let riser = row.riser_surface() * readings;
+                let r = by_reading * sums.read_riser * row.reading() + v * riser;
+                let has_limits = limits_risers && riser > 0;
+                *w = if has_limits { limited(r, riser) } else { r } * row.location_factor();
             }),
             (_, readings) => read.for_each(|(w, row)| {
                 let area = row.heated_area() * readings;
                 let r = by_reading * sums.read_area * row.reading() + v * area;
-                *w = r.min(300 * area).max(40 * area) * row.location_factor();
+                *w = limited(r, area) * row.location_factor();
             }),
         }
     }
+}
+
+#[inline(always)]
+fn limited(r: u64, base: u64) -> u64 {
+    r.min(300 * base).max(40 * base)
 }
 
 /// The four columns of energies, and scratch for a division.

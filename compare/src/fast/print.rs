@@ -3,12 +3,13 @@
 use super::month::Month;
 use super::record::statement_of;
 use super::rows::Row;
+use crate::rules::NEWEST;
 use std::iter::once;
 
 /// Prints to the front of a list that is long enough; gives back the text's
 /// length.
 pub fn print(sheet: &[u8], list: &mut [u8]) -> usize {
-    let month = match Month::of(sheet, 32) {
+    let month = match Month::of(sheet, 32, NEWEST) {
         Ok(month) => month,
         Err(refusal) => {
             let parts = [("refused ", refusal.number), (" ", refusal.place)];

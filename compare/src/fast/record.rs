@@ -1,8 +1,9 @@
 //! The archive record.
 
 use super::month::Month;
-use crate::record::HEAD;
+use crate::record::{head, named_rules, HEAD_BYTES};
 use crate::refusal::*;
+use crate::rules::NEWEST;
 
 pub fn statement_of<'a>(month: &Month, numbers: &'a mut [u32; 1280]) -> &'a [u32] {
     let numbers = &mut numbers[..8 * month.rows.len()];
@@ -11,13 +12,13 @@ pub fn statement_of<'a>(month: &Month, numbers: &'a mut [u32; 1280]) -> &'a [u32
 }
 
 pub fn write(sheet: &[u8], record: &mut [u8]) -> Result<(), Refusal> {
-    let month = Month::of(sheet, 32)?;
+    let month = Month::of(sheet, 32, NEWEST)?;
     refuse_if(record.len() != 56 + 64 * month.rows.len(), BUFFER_LENGTH)?;
     let mut numbers = [0; 1280];
     let numbers = statement_of(&month, &mut numbers);
-    let (head, rest) = record.split_at_mut(HEAD.len());
+    let (front, rest) = record.split_at_mut(HEAD_BYTES);
     let (part, statement) = rest.split_at_mut(sheet.len());
-    head.copy_from_slice(&HEAD);
+    front.copy_from_slice(&head(NEWEST));
     part.copy_from_slice(sheet);
     let (words, _) = statement.as_chunks_mut::<4>();
     for (word, number) in words.iter_mut().zip(numbers) {
@@ -28,9 +29,11 @@ pub fn write(sheet: &[u8], record: &mut [u8]) -> Result<(), Refusal> {
 
 /// The length of the sheet's part.
 pub fn read(record: &[u8]) -> Result<usize, Refusal> {
-    refuse_if(!record.starts_with(&HEAD), BAD_ARCHIVE)?;
-    let body = &record[HEAD.len()..];
-    let month = Month::of(body, 64)?;
+    let Some(rules) = named_rules(record) else {
+        return refuse(BAD_ARCHIVE);
+    };
+    let body = &record[HEAD_BYTES..];
+    let month = Month::of(body, 64, rules)?;
     let mut numbers = [0; 1280];
     let numbers = statement_of(&month, &mut numbers);
     let length = 48 + 32 * month.rows.len();

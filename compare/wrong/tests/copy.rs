@@ -4,7 +4,9 @@
 use compare::calls::{random_call, sheet_of_building, Call};
 use compare::damage::damaged_sheet;
 use compare::edges::{border_sheet, sheet_at_an_end};
+use compare::record::record_of;
 use compare::rng::Rng;
+use compare::rules::RuleSet;
 use compare::samples::{random_ids, random_sheet};
 use compare::sheet::build_sheet;
 use std::fmt::Debug;
@@ -47,6 +49,10 @@ fn sheets_texts_and_records() {
             compare::print::print_into(&sheet, &mut plain_text),
         );
         assert_eq!(text, plain_text);
+        if let (0, Ok(record)) = (rng.below(2), record_of(&sheet, RuleSet::Version1)) {
+            plain = record;
+        }
+        plain[4] ^= [0, 0, 3][rng.below(3) as usize];
         let place = rng.below(plain.len() as u64) as usize;
         plain[place] ^= rng.below(2) as u8;
         same(

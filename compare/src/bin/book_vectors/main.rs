@@ -3,7 +3,7 @@ mod refused;
 
 use compare::book::{self, YearSums, BOOK_LEN};
 use compare::calls::{random_call, sheet_of_building, Call};
-use compare::cases::{case_a, case_a_with_meter, two_units, water_by_volume};
+use compare::cases::{case_a, case_a_with_meter, case_c_by_risers, two_units, water_by_volume};
 use compare::damage::put;
 use compare::refusal::Refusal;
 use compare::rng::Rng;
@@ -148,6 +148,17 @@ impl Run {
         self.year(u32::MAX);
     }
 
+    /// Request 2026-01: months with limits in model 4.
+    fn riser_limits(&mut self) {
+        self.post(&in_month(case_c_by_risers([50, 50, 100]), 5));
+        self.years();
+        self.replace(&in_month(case_c_by_risers([0, 50, 100]), 5));
+        self.post(&in_month(case_c_by_risers([100, 50, 0]), 6));
+        self.years();
+        self.withdraw(5);
+        self.withdraw(6);
+    }
+
     /// Two months of 160 units, with the smallest building after them.
     fn large(&mut self, rng: &mut Rng) {
         let ids: Vec<u32> = (1..=160).map(|place| 3 * place).collect();
@@ -236,6 +247,7 @@ fn main() {
     run.unopened();
     run.computed();
     run.months();
+    run.riser_limits();
     run.bad_sheets();
     run.other_buildings();
     run.bad_books();

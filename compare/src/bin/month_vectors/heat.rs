@@ -28,21 +28,56 @@ impl Sheets {
                 self.add(&sheet);
             }
         }
-        // Articles 8 (6), (7): the first unit's r below, at and above
-        // 300 × p × B, then 40 × p × B.
-        for first in [699, 700, 701] {
-            self.add_limit(100, [first, 800 - first, 0]);
+        self.add_near_limits(3);
+    }
+
+    /// Request 2026-01: units above and below their limits, s = 0, B = 0.
+    pub fn add_riser_limits(&mut self) {
+        self.add_near_limits(4);
+        for risers in [[50, 50, 100], [0, 50, 100], [50, 0, 100], [1, 10_000, 0]] {
+            let base = case_c_by_risers(risers);
+            self.add(&base);
+            self.add_changed(&base, |sheet| sheet.header.base_percent = 0);
+            self.add_changed(&base, |sheet| sheet.header.base_percent = 60);
+            self.add_changed(&base, |sheet| sheet.units[0].reading = 0);
+            self.add_changed(&base, |sheet| {
+                for (unit, factor) in sheet.units.iter_mut().zip([400, 1, 999]) {
+                    unit.location_factor = factor;
+                }
+            });
+            self.add_changed(&base, |sheet| set_status(&mut sheet.units[1], 2));
         }
-        for first in [99, 100, 101] {
-            self.add_limit(300, [first, 500, 1_100 - first]);
+        // 39, 40 and 41 × s × B by v alone.
+        for base_percent in [39, 40, 41] {
+            self.add_changed(&case_c_by_risers([50, 60, 70]), |sheet| {
+                sheet.header.base_percent = base_percent;
+            });
         }
     }
 
-    /// Case A with v 20, the readings and the first unit's location factor.
-    pub fn add_limit(&mut self, location_factor: u16, readings: [u32; 3]) {
+    /// Article 8 (6), (7): the first unit's r below, at and above its upper
+    /// limit, then its lower one.
+    fn add_near_limits(&mut self, model: u8) {
+        for first in [699, 700, 701] {
+            self.add_limit(model, 100, [first, 800 - first, 0]);
+        }
+        for first in [99, 100, 101] {
+            self.add_limit(model, 300, [first, 500, 1_100 - first]);
+        }
+    }
+
+    /// Case A with v 20, s a tenth of p in model 4, the readings and the first
+    /// unit's location factor.
+    fn add_limit(&mut self, model: u8, location_factor: u16, readings: [u32; 3]) {
         self.add_changed(&case_a_with_readings(readings), |sheet| {
+            sheet.header.model = model;
             sheet.header.base_percent = 20;
             sheet.units[0].location_factor = location_factor;
+            if model == 4 {
+                for unit in &mut sheet.units {
+                    unit.riser_surface = unit.heated_area / 10;
+                }
+            }
         });
     }
 

@@ -6,6 +6,7 @@ mod water;
 use compare::cases::*;
 use compare::print::print_statement;
 use compare::rng::Rng;
+use compare::rules::NEWEST;
 use compare::samples::{good_sheet, random_ids, random_sheet_of};
 use compare::settle::{settle, settle_sheet};
 use compare::sheet::{build_sheet, Sheet, Unit, MAX_WH};
@@ -133,7 +134,7 @@ impl Sheets {
             let has_heat = sheet.header.shared_meter_wh > 1_000;
             let unread_wanted = unit_count == 7 && model >= 3;
             let all_read = sheet.units.iter().all(|unit| unit.status == 0);
-            if has_heat && !(unread_wanted && all_read) && settle_sheet(&sheet).is_ok() {
+            if has_heat && !(unread_wanted && all_read) && settle_sheet(&sheet, NEWEST).is_ok() {
                 return self.add(&sheet);
             }
         }
@@ -194,6 +195,7 @@ fn main() {
     sheets.add_water_classes();
     sheets.add_heat_divisors();
     sheets.add_readings();
+    sheets.add_riser_limits();
     sheets.add_heat_meters();
     sheets.add_unread();
     sheets.add_pool_weights();

@@ -9,6 +9,7 @@ pub mod print;
 pub mod ranges;
 pub mod record;
 pub mod refusals;
+pub mod rules;
 pub mod sheet;
 pub mod splits;
 pub mod water;

@@ -1,17 +1,39 @@
 //! Wrong readings of "Archive record".
 
+use crate::record::{head, record_of, HEAD_BYTES};
 use crate::refusal::*;
+use crate::rules::RuleSet;
 use crate::sheet::{check, get_u16, HEADER_BYTES, RECORD_UNIT_BYTES};
 use crate::{current, misread, Reading::*};
 
-/// Whether a head passes.
-pub fn head_passes(record: &[u8], head: [u8; 8]) -> bool {
-    record.len() >= head.len()
-        && match current() {
-            Some(HeadZeros) => record[..6] == head[..6],
-            Some(HeadVersion) => record[..4] == head[..4] && record[6..8] == head[6..],
-            _ => false,
-        }
+/// The rules that a head names: those of another head, read rightly.
+pub fn named_rules(record: &[u8]) -> Option<Option<RuleSet>> {
+    let mut head = *record.first_chunk::<HEAD_BYTES>()?;
+    match (current()?, get_u16(record, 4)) {
+        (HeadZeros, _) => head[6..].fill(0),
+        (HeadVersion, version) if version != 1 => head[4..6].copy_from_slice(&[2, 0]),
+        (HeadVersionIn8Bits, _) => head[5] = 0,
+        (Version0Accepted, 0) => head[4] = 1,
+        (Version3Accepted, 3) => head[4] = 2,
+        (Version1Refused, 1) => head[4] = 0,
+        (Version1ByNewest, 1) => head[4] = 2,
+        (Version2ByVersion1, 2) => head[4] = 1,
+        _ => return None,
+    }
+    Some(crate::record::named_rules(&head))
+}
+
+/// The record that the writer writes.
+pub fn written(sheet: &[u8], mut record: Vec<u8>) -> Vec<u8> {
+    let old = || record_of(sheet, RuleSet::Version1).expect("the sheet settles");
+    match current() {
+        Some(WrittenHead1) => record[..HEAD_BYTES].copy_from_slice(&head(RuleSet::Version1)),
+        Some(WrittenHead1Mostly) if sheet[7] != 4 => return old(),
+        Some(WrittenByVersion1) => record[HEAD_BYTES..].copy_from_slice(&old()[HEAD_BYTES..]),
+        Some(WrittenAsVersion1) => return old(),
+        _ => {}
+    }
+    record
 }
 
 /// Refusals that come before 14's head.
@@ -35,7 +57,7 @@ pub fn sheet_refusal(refusal: Refusal) -> Refusal {
 }
 
 /// Whether a statement passes that differs.
-pub fn statement_passes(statement: &[u8], expected: &[u8]) -> bool {
+pub fn statement_passes(sheet: &[u8], statement: &[u8], expected: &[u8]) -> bool {
     let last = expected.len() - 4;
     match current() {
         Some(LastNumber) => {
@@ -45,6 +67,9 @@ pub fn statement_passes(statement: &[u8], expected: &[u8]) -> bool {
             let rows = statement.chunks(32).zip(expected.chunks(32));
             statement.len() == expected.len() && rows.into_iter().all(|(a, b)| a[..16] == b[..16])
         }
+        Some(NumbersOfAnyVersion) => RuleSet::ALL
+            .into_iter()
+            .any(|rules| record_of(sheet, rules).is_ok_and(|record| record.ends_with(statement))),
         _ => false,
     }
 }

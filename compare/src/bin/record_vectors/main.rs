@@ -1,13 +1,15 @@
 //! Vectors for document 01's "Archive record".
+mod versions;
 
 use compare::cases::*;
 use compare::damage::damage;
-use compare::record::{read_record, write_record};
+use compare::record::{head, read_record, record_of};
 use compare::rng::Rng;
+use compare::rules::{RuleSet, NEWEST};
 use compare::samples::{good_sheet, random_ids, random_sheet, random_sheet_of};
-use compare::settle::settle_bytes;
 use compare::sheet::{build_sheet, Sheet};
-use compare::vectors::{pack, write_files};
+use compare::vectors::{pack, write_files, write_files_to};
+use versions::stored_records;
 
 /// Bytes of the head, and of the head with the sheet's header.
 const HEAD: usize = 8;
@@ -16,21 +18,13 @@ const HEAD_AND_HEADER: usize = 56;
 /// The list of records under construction.
 struct Records(Vec<Vec<u8>>);
 
-/// The record of a sheet, or nothing where the sheet is refused.
-fn record_of(sheet: &[u8]) -> Option<Vec<u8>> {
-    let unit_count = settle_bytes(sheet).ok()?.unit_count;
-    let mut record = vec![0; HEAD_AND_HEADER + 64 * unit_count];
-    write_record(sheet, &mut record).expect("the list has the record's length");
-    Some(record)
-}
-
-fn record(sheet: &Sheet) -> Vec<u8> {
-    record_of(&build_sheet(sheet)).expect("the sheet settles")
+fn record(sheet: &Sheet, rules: RuleSet) -> Vec<u8> {
+    record_of(&build_sheet(sheet), rules).expect("the sheet settles")
 }
 
 /// The sheet as a record with a statement of zeros, also where it is refused.
-fn unsettled(sheet: &Sheet) -> Vec<u8> {
-    let mut record = b"HCA\0\x01\0\0\0".to_vec();
+fn unsettled(sheet: &Sheet, rules: RuleSet) -> Vec<u8> {
+    let mut record = head(rules).to_vec();
     record.extend(build_sheet(sheet));
     record.resize(HEAD_AND_HEADER + 64 * sheet.units.len(), 0);
     record
@@ -67,7 +61,7 @@ impl Records {
     }
 
     fn add_cases(&mut self) {
-        self.add_with_damage(&record(&case_a()));
+        self.add_with_damage(&record(&case_a(), NEWEST));
         for sheet in [
             case_a_with_readings([0, 400, 600]),
             case_a_with_readings([1_000, 0, 0]),
@@ -78,14 +72,13 @@ impl Records {
             case_a_with_meter(50),
             case_a_with_meter(0),
         ] {
-            self.add(record(&sheet));
+            self.add(record(&sheet, NEWEST));
         }
-        self.add(unsettled(&two_units(31)));
     }
 
     /// Every byte of case A's record, and each bit of its head.
     fn add_bytes(&mut self) {
-        let good = record(&case_a());
+        let good = record(&case_a(), NEWEST);
         for place in 0..good.len() {
             self.add_changed(&good, place, 0x10);
         }
@@ -98,7 +91,7 @@ impl Records {
 
     /// Lengths around each end: head, header, sheet, units of the statement.
     fn add_lengths(&mut self) {
-        let good = record(&case_a());
+        let good = record(&case_a(), NEWEST);
         for length in [0, 1, 7, 8, 9, 55, 56, 57, 151, 152, 153, 183, 184, 216, 247] {
             self.add(good[..length].to_vec());
         }
@@ -113,57 +106,51 @@ impl Records {
         self.add(good[HEAD..].to_vec());
     }
 
-    /// The archive version and the two zeros behind it.
-    fn add_versions(&mut self) {
-        let good = record(&good_sheet(4, 1));
-        for version in [0u16, 2, 3, 256, 257, 65_535] {
-            let mut record = good.clone();
-            record[4..6].copy_from_slice(&version.to_le_bytes());
-            self.add(record);
-        }
-        for place in [6, 7] {
-            self.add_changed(&good, place, 1);
-            self.add_changed(&good, place, 0x80);
-        }
-    }
-
     /// Every model and source.
     fn add_models(&mut self) {
         for model in 1..=5 {
             for source in 0..4 {
                 let mut sheet = good_sheet(model, source);
                 sheet.header.hot_water_inputs[0] = [0, 77_777, 9, 600][usize::from(source)];
-                self.add_with_damage(&record(&sheet));
+                self.add_with_damage(&record(&sheet, NEWEST));
             }
         }
     }
 
     /// Sheets that 8 to 12 refuse, whatever the statement.
-    fn add_refused(&mut self) {
+    fn add_refused(&mut self, rules: RuleSet) {
         let mut water = good_sheet(2, 1);
         water.header.hot_water_inputs[0] = water.header.shared_meter_wh + 1;
-        self.add(unsettled(&water));
+        self.add(unsettled(&water, rules));
         let mut divisor = good_sheet(1, 0);
         for unit in &mut divisor.units {
             unit.heat_load_w = 0;
         }
-        self.add(unsettled(&divisor));
-        let mut unread = good_sheet(3, 0);
-        for unit in &mut unread.units {
-            unit.status = 2;
-            unit.reading = 0;
+        self.add(unsettled(&divisor, rules));
+        self.add(unsettled(&case_c_by_risers([0, 0, 0]), rules));
+        for model in [3, 4] {
+            let mut unread = good_sheet(model, 0);
+            for unit in &mut unread.units {
+                unit.status = 2;
+                unit.reading = 0;
+            }
+            self.add(unsettled(&unread, rules));
         }
-        self.add(unsettled(&unread));
         let mut meters = good_sheet(5, 0);
         meters.units[0].reading = 25_000_000;
-        self.add(unsettled(&meters));
-        // A good sheet with another month's statement, and with zeros.
-        let mut mixed = record(&case_a());
-        let other = record(&case_a_with_readings([0, 400, 600]));
+        self.add(unsettled(&meters, rules));
+        self.add(unsettled(&two_units(31), rules));
+    }
+
+    /// Good sheets with another month's statement, and with zeros.
+    fn add_other_statements(&mut self, rules: RuleSet) {
+        let mut mixed = record(&case_a(), rules);
+        let other = record(&case_a_with_readings([0, 400, 600]), rules);
         let start = statement(&mixed);
         mixed[start..].copy_from_slice(&other[start..]);
         self.add(mixed);
-        self.add(unsettled(&case_a()));
+        self.add(unsettled(&case_a(), rules));
+        self.add(unsettled(&case_c_by_risers([50, 50, 100]), rules));
     }
 
     /// Records of 159 and 160 units, and one of them damaged.
@@ -173,7 +160,7 @@ impl Records {
         for model in [3, 1, 4, 5, 2] {
             let count = if model == 1 { 159 } else { 160 };
             let bytes = build_sheet(&random_sheet_of(rng, 12, model, 1, &ids[..count]));
-            let Some(record) = record_of(&bytes) else {
+            let Ok(record) = record_of(&bytes, NEWEST) else {
                 continue;
             };
             self.add(record.clone());
@@ -192,13 +179,14 @@ impl Records {
         }
     }
 
-    /// Random records, good and with one to three damages in the sheet or
-    /// behind it.
+    /// Random records of every version in turn, good and with one to three
+    /// damages in the sheet or behind it.
     fn add_random(&mut self, rng: &mut Rng) {
         let mut count = 0;
         while count < 60 {
             let sheet = build_sheet(&random_sheet(rng));
-            let Some(record) = record_of(&sheet) else {
+            let rules = RuleSet::ALL[count % RuleSet::ALL.len()];
+            let Ok(record) = record_of(&sheet, rules) else {
                 continue;
             };
             if record.len() > 700 {
@@ -215,6 +203,19 @@ impl Records {
     }
 }
 
+/// Number, place and the length of the sheet's part.
+fn read_line(record: &[u8]) -> String {
+    let answer = read_record(record);
+    format!("{} {} {}", answer.number, answer.place, answer.part_length)
+}
+
+/// 1 where the sheet's record is this one, else 0.
+fn written_anew(record: &[u8]) -> u8 {
+    let answer = read_record(record);
+    let part = &record[answer.part_start..][..answer.part_length];
+    u8::from(record_of(part, NEWEST).is_ok_and(|written| written == record))
+}
+
 fn main() {
     let mut rng = Rng::new(103);
     let mut records = Records(Vec::new());
@@ -222,23 +223,26 @@ fn main() {
     records.add_bytes();
     records.add_lengths();
     records.add_versions();
+    records.add_version_pairs();
+    records.add_damaged_versions();
     records.add_models();
-    records.add_refused();
+    for rules in RuleSet::ALL {
+        records.add_refused(rules);
+        records.add_other_statements(rules);
+    }
     records.add_large(&mut rng);
     records.add_random(&mut rng);
 
-    let mut stdout = String::new();
-    for record in &records.0 {
-        let answer = read_record(record);
-        let part = &record[answer.part_start..][..answer.part_length];
-        let same = record_of(part).as_ref() == Some(record);
-        stdout += &format!(
-            "{} {} {} {}\n",
-            answer.number,
-            answer.place,
-            answer.part_length,
-            u8::from(same)
-        );
-    }
+    let line = |record: &Vec<u8>| format!("{} {}\n", read_line(record), written_anew(record));
+    let stdout: String = records.0.iter().map(line).collect();
     write_files(&pack(&records.0), &stdout);
+
+    if let Some(folder) = std::env::args().nth(2) {
+        let stored = stored_records();
+        let stdout: String = stored
+            .iter()
+            .map(|record| read_line(record) + "\n")
+            .collect();
+        write_files_to(&folder, &stored.concat(), &stdout);
+    }
 }
