@@ -4,6 +4,7 @@ ghost use mathlib.Core.List.{_∷_};
 ghost use Prim.Native.Nat.{_≤_};
 ghost use lib.ListN.{length};
 ghost use Rattle.sheet.specs.Inner.Places.{PlaceBelow};
+ghost use Rattle.sheet.specs.RuleSets.{newest};
 ghost use Rattle.month.specs.Month.{settledSheet};
 ghost use Rattle.settlement.specs.Settle.{settleAnswer, statementAfter};
 ghost use Rattle.archive.specs.Writer.{writeAnswer, recordAfter};
@@ -28,8 +29,8 @@ fn answer(outcome: Outcome) -> u32
 // The statement of a sheet into a list of 8n numbers.
 #[no_mangle]
 pub extern "C" fn heatcost_settle(sheet: &[u8], statement: &mut [u32]) -> u32
-    ensures { λ r. ⌜ r ≡ answerNumber (settleAnswer (now (sheet .entry)) (now (statement .entry))) ⌝ }
-    ensures { λ _. ⌜ now (statement .exit) ≡ statementAfter (now (sheet .entry)) (now (statement .entry)) ⌝ }
+    ensures { λ r. ⌜ r ≡ answerNumber (settleAnswer newest (now (sheet .entry)) (now (statement .entry))) ⌝ }
+    ensures { λ _. ⌜ now (statement .exit) ≡ statementAfter newest (now (sheet .entry)) (now (statement .entry)) ⌝ }
 {
     answer(settlement::settle(sheet, statement))
 }
@@ -63,7 +64,7 @@ pub extern "C" fn heatcost_record_sheet_len(bytes: &[u8]) -> u64
 // The text that is printed of a sheet: how long it is. A list at least as long has it at its front, a shorter one keeps its contents.
 #[no_mangle]
 pub extern "C" fn heatcost_print(sheet: &[u8], text: &mut [u8]) -> u64
-    ensures { λ r. ⌜ (r ≡ length (printed (now (sheet .entry)))) × (r ≤ longest (settledSheet (now (sheet .entry)))) ⌝ }
+    ensures { λ r. ⌜ (r ≡ length (printed (now (sheet .entry)))) × (r ≤ longest (settledSheet newest (now (sheet .entry)))) ⌝ }
     ensures { λ _. ⌜ now (text .exit) ≡ atFront (printed (now (sheet .entry))) (now (text .entry)) ⌝ }
 {
     printing::print(sheet, text) as u64

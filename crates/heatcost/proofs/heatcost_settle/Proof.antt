@@ -1,6 +1,7 @@
 -- `heatcost_settle` meets its contract.
 use mathlib.Core.Path.{ap, subst, sym, _∙_}
 use Rattle.sheet.specs.Inner.Places.{PlaceBelow}
+use Rattle.sheet.specs.RuleSets.{newest}
 use Rattle.settlement.proofs.Places.{answer-place}
 use Rattle.heatcost.specs.Answer.{answerNumber}
 use borrow.Author.Needs.{needs}
@@ -13,7 +14,7 @@ settle-requires c κs = search needs
 answer-requires : tie.Need-answer-requires
 answer-requires c κs =
     let a = c .before .before .before .before .before .before .args in
-    subst (PlaceBelow 160) (sym (c .before .before .settle .ensures .0)) (answer-place (a .sheet .now) (a .statement .now))
+    subst (PlaceBelow 160) (sym (c .before .before .settle .ensures .0)) (answer-place newest (a .sheet .now) (a .statement .now))
 
 same-length : tie.Need-same-length
 same-length c = search needs
