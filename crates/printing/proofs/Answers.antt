@@ -8,6 +8,7 @@ use lib.ListN.{length, take, drop, take-append-drop}
 use lib.Seq.{take-append-seam}
 use Rattle.sheet.specs.declared.refusal.Refusal.{Refusal}
 use Rattle.sheet.specs.declared.refusal.Outcome.the-variants.{Accepted, Refused}
+use Rattle.sheet.specs.RuleSets.{newest}
 use Rattle.sheet.specs.Layout.{sheetOf}
 use Rattle.sheet.specs.Check.{checked}
 use Rattle.month.specs.Month.{Month, Settled, refused, settled, monthOf, settledSheet}
@@ -37,22 +38,22 @@ module _ (x : Settled) (list : List ℕ) (short : length (textOf x) ≤ longest 
       }
 
 -- ---- which text: 1 to 7, then 8 to 12 by way of a list of 8n numbers
-pub refused-sheet : (bytes : List ℕ) (r : Refusal) → checked 32 bytes ≡ Refused r → settledSheet bytes ≡ refused r
-refused-sheet bytes r e = rw (settled-in-order bytes, e)
+pub refused-sheet : (bytes : List ℕ) (r : Refusal) → checked 32 bytes ≡ Refused r → settledSheet newest bytes ≡ refused r
+refused-sheet bytes r e = rw (settled-in-order newest bytes, e)
 
 module _ (bytes list : List ℕ) (passed : checked 32 bytes ≡ Accepted) (room : length list ≡ 8 * sheetOf bytes .unitCount) where
-  pub refused-month : (r : Refusal) → settleAnswer bytes list ≡ Refused r → settledSheet bytes ≡ refused r
-  refused-month r e = rw (settled-in-order bytes, passed, sym (answer-is bytes list passed room) ∙ e)
+  pub refused-month : (r : Refusal) → settleAnswer newest bytes list ≡ Refused r → settledSheet newest bytes ≡ refused r
+  refused-month r e = rw (settled-in-order newest bytes, passed, sym (answer-is newest bytes list passed room) ∙ e)
 
 -- ---- a list of 15,889 bytes has room for every text
-pub room-for-all : (bytes : List ℕ) → longest (settledSheet bytes) ≤ 15889
+pub room-for-all : (bytes : List ℕ) → longest (settledSheet newest bytes) ≤ 15889
 unfolding monthOf
-room-for-all bytes = go (settledSheet bytes) refl
+room-for-all bytes = go (settledSheet newest bytes) refl
   where
-    go : (x : Settled) → settledSheet bytes ≡ x → longest x ≤ 15889
+    go : (x : Settled) → settledSheet newest bytes ≡ x → longest x ≤ 15889
     go (refused r) e = omega arith
     go (settled m) e =
-        let is = settled-month bytes m e in
+        let is = settled-month newest bytes m e in
         omega (arith, ap (λ (m : Month). m .unitCount) (is .1), accepted bytes (is .0) .checked-sheet .header .unitCount)
 
 pub front-is : (text list : List ℕ) → length text ≤ length list → take (length text) (atFront text list) ≡ text

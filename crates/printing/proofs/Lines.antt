@@ -8,6 +8,7 @@ use lib.ListN.{length, getD, take, drop, length-append, length-drop, drop-of-len
 use lib.Seq.{length-take-le, drop-cons, drop-drop}
 use Rattle.sheet.specs.declared.refusal.Refusal.{Refusal}
 use Rattle.sheet.specs.Refusals.{numberOf, placeOf}
+use Rattle.sheet.specs.RuleSets.{newest}
 use Rattle.sheet.specs.Layout.{sheetOf}
 use Rattle.sheet.specs.Inner.Fields.{unitOf, rowField}
 use Rattle.sheet.specs.Inner.Fits.{Fits}
@@ -43,7 +44,7 @@ module _ {m : Month} {month count meter bill : ℕ} (are : FirstLine m month cou
   pub first-line-long : length (firstLine m) ≡ 25 + length (decimal month) + length (decimal count) + length (decimal meter) + length (decimal bill)
   first-line-long = rw (← first-line-parts) (simp length-append (omega arith))
 
-pub first-short : {perUnit : ℕ} {bytes : List ℕ} → Fits perUnit bytes → length (firstLine (monthOf (sheetOf bytes))) ≤ 49
+pub first-short : {perUnit : ℕ} {bytes : List ℕ} → Fits perUnit bytes → length (firstLine (monthOf newest (sheetOf bytes))) ≤ 49
 unfolding monthOf
 first-short {bytes = bytes} fits =
     let s = sheetOf bytes in
@@ -52,7 +53,7 @@ first-short {bytes = bytes} fits =
     let count = decimal-short 2 (s .unitCount) (omega arith) in
     let meter = decimal-short 9 (s .sharedMeter) (omega arith) in
     let bill = decimal-short 8 (billCents s) (omega (arith, sum-bounds s (fits-checked fits) .bill)) in
-    omega (arith, first-line-long {m = monthOf s} (record { month = refl; count = refl; meter = refl; bill = refl }))
+    omega (arith, first-line-long {m = monthOf newest s} (record { month = refl; count = refl; meter = refl; bill = refl }))
 
 -- ---- one number further
 pub further-next : (numbers : List ℕ) (j : ℕ) → j < length numbers → further (map decimal (drop j numbers)) ≡ (ascii " " ++ decimal (getD numbers j 0)) ++ further (map decimal (drop (j + 1) numbers))
@@ -72,7 +73,7 @@ module _ (statement : List ℕ) (i : ℕ) where
 
 module _ (bytes statement : List ℕ) (i : ℕ) where
   abbrev ids : List ℕ
-  ids = monthOf (sheetOf bytes) .ids
+  ids = monthOf newest (sheetOf bytes) .ids
 
   pub lines-next : {id : ℕ} → i < sheetOf bytes .unitCount → id ≡ rowField (unitOf (sheetOf bytes) i) 0 → unitLines (drop i ids) (drop (8 * i) statement) ≡ line (decimal id) (map decimal (eight statement i)) ++ unitLines (drop (i + 1) ids) (drop (8 * (i + 1)) statement)
   unfolding unitLines monthOf

@@ -11,6 +11,7 @@ use lib.ListN.{length, take, drop, length-append, take-append-drop}
 use lib.Seq.{length-take-le, take-append-le}
 use Rattle.sheet.specs.declared.refusal.Refusal.{Refusal}
 use Rattle.sheet.specs.declared.refusal.Refusal.the-variants.{BadMagic, UnsupportedVersion, HeaderField}
+use Rattle.sheet.specs.RuleSets.{newest}
 use Rattle.sheet.specs.Tests.{all}
 use Rattle.sheet.specs.Layout.{le16, Sheet, sheetOf}
 use Rattle.sheet.specs.Check.{passes, _to_, headerTests, sameList, sheetMagic, sheetRules}
@@ -37,7 +38,7 @@ refusalBy true false = UnsupportedVersion
 refusalBy true true = HeaderField
 
 module _ (bytes : List ℕ) (long : 48 ≤ length bytes) (many : 160 < sheetOf bytes .unitCount) where
-  by-header : (magic version : Bool) → sameList (sheetOf bytes .magic) sheetMagic ≡ magic → eqb (sheetOf bytes .version) 1 ≡ version → settledSheet bytes ≡ refused (refusalBy magic version)
+  by-header : (magic version : Bool) → sameList (sheetOf bytes .magic) sheetMagic ≡ magic → eqb (sheetOf bytes .version) 1 ≡ version → settledSheet newest bytes ≡ refused (refusalBy magic version)
   unfolding refusalBy
   by-header false version e f = refused-sheet bytes BadMagic (bad-magic 32 bytes long e)
   by-header true false e f = refused-sheet bytes UnsupportedVersion (bad-version 32 bytes long e (eqb-false (sheetOf bytes .version) 1 f))
@@ -45,13 +46,13 @@ module _ (bytes : List ℕ) (long : 48 ≤ length bytes) (many : 160 < sheetOf b
 
 -- ---- the first 5,169 bytes, and more
 module _ (xs ys : List ℕ) (long : length xs ≡ 5169) where
-  fewer : sheetOf xs .unitCount ≤ 160 → settledSheet (xs ++ ys) ≡ settledSheet xs
+  fewer : sheetOf xs .unitCount ≤ 160 → settledSheet newest (xs ++ ys) ≡ settledSheet newest xs
   unfolding settledSheet settleRules sheetRules
   fewer h =
       let n = sheetOf xs .unitCount in
       rw (sheet-append xs ys (omega arith), le-ltb (length (xs ++ ys)) 48 (omega (arith, length-append xs ys)), le-ltb (length xs) 48 (omega arith), ne-eqb (length (xs ++ ys)) (48 + 32 * n) (λ e. omega (arith, length-append xs ys)), ne-eqb (length xs) (48 + 32 * n) (λ e. omega arith))
 
-  more : 160 < sheetOf xs .unitCount → settledSheet (xs ++ ys) ≡ settledSheet xs
+  more : 160 < sheetOf xs .unitCount → settledSheet newest (xs ++ ys) ≡ settledSheet newest xs
   unfolding sheetOf
   more h =
       by-header (xs ++ ys) (omega (arith, length-append xs ys)) (omega (arith, le16-append xs ys 8 (omega arith))) (sameList (take 4 xs) sheetMagic) (eqb (le16 xs 4) 1)
@@ -59,7 +60,7 @@ module _ (xs ys : List ℕ) (long : length xs ≡ 5169) where
       (ap (λ (n : ℕ). eqb n 1) (le16-append xs ys 4 (omega arith)))
       ∙ sym (by-header xs (omega arith) h (sameList (take 4 xs) sheetMagic) (eqb (le16 xs 4) 1) refl refl)
 
-  same : settledSheet (xs ++ ys) ≡ settledSheet xs
+  same : settledSheet newest (xs ++ ys) ≡ settledSheet newest xs
   same = elim (decided (leb (sheetOf xs .unitCount) 160)) [
     | inl e ↦ fewer (leb-true (sheetOf xs .unitCount) 160 e)
     | inr e ↦ more (leb-false (sheetOf xs .unitCount) 160 e)
@@ -68,4 +69,4 @@ module _ (xs ys : List ℕ) (long : length xs ≡ 5169) where
 pub first-bytes-decide : FirstBytesDecide
 unfolding printed
 first-bytes-decide bytes h =
-    ap textOf (sym (same (take 5169 bytes) (drop 5169 bytes) (length-take-le 5169 bytes h)) ∙ ap settledSheet (take-append-drop 5169 bytes))
+    ap textOf (sym (same (take 5169 bytes) (drop 5169 bytes) (length-take-le 5169 bytes h)) ∙ ap (settledSheet newest) (take-append-drop 5169 bytes))

@@ -6,6 +6,7 @@ use lib.ListN.{length, take, drop}
 use Rattle.sheet.specs.Tests.{if_then_else_}
 use Rattle.sheet.specs.declared.refusal.Refusal.{Refusal}
 use Rattle.sheet.specs.Refusals.{numberOf, placeOf}
+use Rattle.sheet.specs.RuleSets.{newest}
 use Rattle.month.specs.Month.{Month, Settled, refused, settled, settledSheet}
 use Rattle.printing.specs.Text.{ascii, decimal, line}
 
@@ -37,9 +38,9 @@ abbrev pub textOf : Settled → List ℕ
 textOf (refused r) = refusalLine r
 textOf (settled m) = firstLine m ++ unitLines (m .ids) (m .numbers)
 
--- the text of any bytes
+-- the text of any bytes, settled by the newest rules (document 02, 2026-01)
 unfoldable pub printed : List ℕ → List ℕ
-printed bytes = textOf (settledSheet bytes)
+printed bytes = textOf (settledSheet newest bytes)
 
 -- No text is longer: a first line has at most 49 bytes, a unit's line at most 99, and a refusal's line is shorter than the longest first line.
 abbrev pub longest : Settled → ℕ

@@ -3,6 +3,7 @@ ghost use mathlib.Core.Path.{_≡_};
 ghost use mathlib.Core.List.{map};
 ghost use Prim.Native.Nat.{_*_, _≤_};
 ghost use lib.ListN.{length};
+ghost use Rattle.sheet.specs.RuleSets.{newest};
 ghost use Rattle.sheet.specs.Layout.{sheetOf};
 ghost use Rattle.sheet.specs.Inner.Fits.{Fits};
 ghost use Rattle.month.specs.Month.{monthOf};
@@ -40,7 +41,7 @@ pub(crate) fn refusal_line_len(r: Refusal) -> usize
 
 pub(crate) fn first_line_len(sheet: &[u8]) -> usize
     requires { ⌜ Fits 32 (now sheet) ⌝ }
-    ensures { λ r. ⌜ (r ≡ length (firstLine (monthOf (sheetOf (now (sheet .entry)))))) × (r ≤ 49) ⌝ }
+    ensures { λ r. ⌜ (r ≡ length (firstLine (monthOf newest (sheetOf (now (sheet .entry)))))) × (r ≤ 49) ⌝ }
 {
     25
         + number_len(header::header_field(sheet, header::MONTH))
@@ -64,7 +65,7 @@ fn unit_line_len(id: u32, numbers: &[u32]) -> usize
 // The lines of all units, of a statement of 8n numbers.
 pub(crate) fn unit_lines_len(sheet: &[u8], statement: &[u32]) -> usize
     requires { ⌜ Fits 32 (now sheet) × (length (now statement) ≡ 8 * sheetOf (now sheet) .unitCount) ⌝ }
-    ensures { λ r. ⌜ (r ≡ length (unitLines (monthOf (sheetOf (now (sheet .entry))) .ids) (now (statement .entry)))) × (r ≤ 99 * sheetOf (now (sheet .entry)) .unitCount) ⌝ }
+    ensures { λ r. ⌜ (r ≡ length (unitLines (monthOf newest (sheetOf (now (sheet .entry))) .ids) (now (statement .entry)))) × (r ≤ 99 * sheetOf (now (sheet .entry)) .unitCount) ⌝ }
 {
     let mut len = 0;
     for i in 0..statement.len() / 8 {

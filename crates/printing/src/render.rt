@@ -3,6 +3,7 @@ ghost use mathlib.Core.Path.{_≡_};
 ghost use mathlib.Core.List.{map, _++_};
 ghost use Prim.Native.Nat.{_+_, _*_, _≤_};
 ghost use lib.ListN.{length};
+ghost use Rattle.sheet.specs.RuleSets.{newest};
 ghost use Rattle.sheet.specs.Layout.{sheetOf};
 ghost use Rattle.sheet.specs.Inner.Fits.{Fits};
 ghost use Rattle.month.specs.Month.{monthOf};
@@ -67,8 +68,8 @@ pub(crate) fn put_refusal_line(r: Refusal, text: &mut [u8]) -> usize
 
 // Month, n, M, bill.
 pub(crate) fn put_first_line(sheet: &[u8], text: &mut [u8]) -> usize
-    requires { ⌜ Fits 32 (now sheet) × (length (firstLine (monthOf (sheetOf (now sheet)))) ≤ length (now text)) ⌝ }
-    ensures { λ r. ⌜ Placed (firstLine (monthOf (sheetOf (now (sheet .entry))))) (now (text .entry)) 0 (now (text .exit)) r ⌝ }
+    requires { ⌜ Fits 32 (now sheet) × (length (firstLine (monthOf newest (sheetOf (now sheet)))) ≤ length (now text)) ⌝ }
+    ensures { λ r. ⌜ Placed (firstLine (monthOf newest (sheetOf (now (sheet .entry))))) (now (text .entry)) 0 (now (text .exit)) r ⌝ }
 {
     let month = header::header_field(sheet, header::MONTH) as u64;
     let count = header::header_field(sheet, header::UNIT_COUNT) as u64;
@@ -95,8 +96,8 @@ fn put_unit_line(id: u32, numbers: &[u32], text: &mut [u8], at: usize) -> usize
 
 pub(crate) fn put_unit_lines(sheet: &[u8], statement: &[u32], text: &mut [u8], at: usize) -> usize
     requires { ⌜ Fits 32 (now sheet) × (length (now statement) ≡ 8 * sheetOf (now sheet) .unitCount) ⌝ }
-    requires { ⌜ at + length (unitLines (monthOf (sheetOf (now sheet)) .ids) (now statement)) ≤ length (now text) ⌝ }
-    ensures { λ r. ⌜ Placed (unitLines (monthOf (sheetOf (now (sheet .entry))) .ids) (now (statement .entry))) (now (text .entry)) at (now (text .exit)) r ⌝ }
+    requires { ⌜ at + length (unitLines (monthOf newest (sheetOf (now sheet)) .ids) (now statement)) ≤ length (now text) ⌝ }
+    ensures { λ r. ⌜ Placed (unitLines (monthOf newest (sheetOf (now (sheet .entry))) .ids) (now (statement .entry))) (now (text .entry)) at (now (text .exit)) r ⌝ }
 {
     let mut end = at;
     for i in 0..statement.len() / 8 {

@@ -10,6 +10,7 @@ use Rattle.sheet.specs.declared.refusal.Refusal.{Refusal}
 use Rattle.sheet.specs.declared.refusal.Refusal.the-variants.{BadYearBook, OtherBuilding, MonthState, NoSuchUnit}
 use Rattle.sheet.specs.declared.refusal.Outcome.the-variants.{Accepted, Refused}
 use Rattle.sheet.specs.Refusals.{Rule, _⇒_, firstRefusal}
+use Rattle.sheet.specs.RuleSets.{newest}
 use Rattle.sheet.specs.Layout.{sheetOf}
 use Rattle.sheet.specs.Check.{sheetRules, checked}
 use Rattle.month.specs.Month.{Month, Settled, monthRules, settleRules, settledSheet}
@@ -75,11 +76,11 @@ module _ (replacing : Bool) (b sheet : List ℕ) where
     unfolding settleRules checked
     bring-unsettled r passes e = bring-refused r (first-accepted (sheetRules 32 sheet) (monthRules (sheetOf sheet)) passes ∙ e)
 
-    module _ (m : Month) (settles : settledSheet sheet ≡ Settled.settled m) where
+    module _ (m : Month) (settles : settledSheet newest sheet ≡ Settled.settled m) where
       behind : firstRefusal (sheetCallRules b sheet (wrongMonth replacing b sheet))
           ≡ firstRefusal ((otherBuilding b (sheetOf sheet) ⇒ OtherBuilding) ∷ (wrongMonth replacing b sheet ⇒ MonthState) ∷ [])
       unfolding sheetCallRules firstRefusal
-      behind = rw sound (first-accepted (settleRules sheet) _ (settled-month sheet m settles .0))
+      behind = rw sound (first-accepted (settleRules sheet) _ (settled-month newest sheet m settles .0))
 
       pub bring-16 : otherBuilding b (sheetOf sheet) ≡ true → Answered b (bringCall replacing sheet) (refused OtherBuilding) b
       unfolding firstRefusal

@@ -10,6 +10,7 @@ use Rattle.sheet.specs.declared.refusal.Refusal.{Refusal}
 use Rattle.sheet.specs.declared.refusal.Outcome.{Outcome}
 use Rattle.sheet.specs.declared.refusal.Outcome.the-variants.{Accepted, Refused}
 use Rattle.sheet.specs.Refusals.{firstRefusal}
+use Rattle.sheet.specs.RuleSets.{newest}
 use Rattle.sheet.specs.Layout.{sheetOf}
 use Rattle.sheet.specs.Check.{checked}
 use Rattle.sheet.specs.Inner.Fits.{Fits}
@@ -46,17 +47,17 @@ module _ {b sheet : List ℕ} (h : Passed b sheet) (n : ℕ) (count : n ≡ shee
   room : length (partOf n) ≡ 8 * sheetOf sheet .unitCount
   room = omega (arith, part-length)
 
-  module _ (o : Outcome) (is : o ≡ settleAnswer sheet (partOf n)) where
+  module _ (o : Outcome) (is : o ≡ settleAnswer newest sheet (partOf n)) where
     pub part-refused : (r : Refusal) → o ≡ Refused r → firstRefusal (monthRules (sheetOf sheet)) ≡ Refused r
-    part-refused r e = sym (answer-is sheet _ (h .checked-sheet) room) ∙ sym is ∙ e
+    part-refused r e = sym (answer-is newest sheet _ (h .checked-sheet) room) ∙ sym is ∙ e
 
-    pub part-settled : o ≡ Accepted → (last : List ℕ) → last ≡ statementAfter sheet (partOf n) → Brings b sheet (last ++ drop (8 * n) (replicate blockLength 0))
+    pub part-settled : o ≡ Accepted → (last : List ℕ) → last ≡ statementAfter newest sheet (partOf n) → Brings b sheet (last ++ drop (8 * n) (replicate blockLength 0))
     part-settled ok last e =
-        let written = statement-is sheet _ (h .checked-sheet) room (sym is ∙ ok) in
+        let written = statement-is newest sheet _ (h .checked-sheet) room (sym is ∙ ok) in
         let zeros = rest-untouched (8 * n) blockLength 0 ∙ ap (λ (k : ℕ). replicate (blockLength - 8 * k) 0) count in
         record {
           passed = h;
-          settles = settles sheet _ (h .checked-sheet) room (sym is ∙ ok);
+          settles = settles newest sheet _ (h .checked-sheet) room (sym is ∙ ok);
           block-is = ap₂ (λ (x y : List ℕ). x ++ y) (e ∙ written) zeros;
         }
 

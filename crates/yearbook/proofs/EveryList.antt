@@ -5,6 +5,7 @@ use Prim.Native.Nat.{ℕ, _+_, _<_}
 use native.Mathlib.Omega.{arith}
 use lib.ListN.{length, getD}
 use Rattle.apportion.specs.Shares.{sum}
+use Rattle.sheet.specs.RuleSets.{newest}
 use Rattle.sheet.specs.Layout.{sheetOf}
 use Rattle.sheet.specs.Tests.{Each}
 use Rattle.month.specs.Fraction.{Near}
@@ -35,8 +36,8 @@ run {n} (then {c = c} a k) p h =
     (ap₂ (λ (x : Reply) (l : List Reply). x ∷ l) (a .reply ∙ f .reply) (rest .0), rest .1)
 
 -- ---- the laws of the standing months
-laws : {n : ℕ} {sheet : List ℕ} → Good n sheet → MonthLaws (sheetOf sheet) (monthOf (sheetOf sheet))
-laws {sheet = sheet} g = settled-laws sheet (monthOf (sheetOf sheet)) (g .settles)
+laws : {n : ℕ} {sheet : List ℕ} → Good n sheet → MonthLaws newest (sheetOf sheet) (monthOf newest (sheetOf sheet))
+laws {sheet = sheet} g = settled-laws newest sheet (monthOf newest (sheetOf sheet)) (g .settles)
 
 sum-at : (p : PlainBook) (u j : ℕ) → j < 8 → getD (unitSums p u) j 0 ≡ sum (map (numberIn u j) (standing p))
 unfolding unitSums
@@ -63,11 +64,11 @@ module _ {n : ℕ} {b : List ℕ} {p : PlainBook} (h : Shows n b p) where
   unfolding numberIn monthOf
   cents s g = subst (λ (k : ℕ). sumTo k (λ u. sumTo 4 (λ j. numberIn u (4 + j) s)) ≡ billCents (sheetOf s)) (g .units) (laws g .cents-add)
 
-  energy-of : (u j : ℕ) → u < n → j < 4 → (s : List ℕ) → Good n s → Near (numberIn u j s) (energyPortion (sheetOf s) u j) 4
+  energy-of : (u j : ℕ) → u < n → j < 4 → (s : List ℕ) → Good n s → Near (numberIn u j s) (energyPortion newest (sheetOf s) u j) 4
   unfolding numberIn monthOf
   energy-of u j l m s g = laws g .energy-near u j (omega (arith, g .units)) m
 
-  cents-of : (u j : ℕ) → u < n → j < 4 → (s : List ℕ) → Good n s → Near (numberIn u (4 + j) s) (billPart (sheetOf s) u j) 1
+  cents-of : (u j : ℕ) → u < n → j < 4 → (s : List ℕ) → Good n s → Near (numberIn u (4 + j) s) (billPart newest (sheetOf s) u j) 1
   unfolding numberIn monthOf
   cents-of u j l m s g = laws g .cents-near u j (omega (arith, g .units)) m
 

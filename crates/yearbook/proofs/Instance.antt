@@ -8,6 +8,7 @@ use Rattle.apportion.specs.Shares.{sharesBy}
 use Rattle.sheet.specs.Tests.{all, any}
 use Rattle.sheet.specs.Refusals.{firstRefusal}
 use Rattle.sheet.specs.declared.refusal.Outcome.the-variants.{Accepted}
+use Rattle.sheet.specs.RuleSets.{newest}
 use Rattle.sheet.specs.Layout.{inBytes, unitRow, rows, sheetOf}
 use Rattle.sheet.specs.Check.{headerTests, rowTests, rowRules, sheetRules, checked}
 use Rattle.sheet.specs.Cases.Samples.{unitBytes, joined, sheetBytes}
@@ -21,7 +22,7 @@ use Rattle.yearbook.specs.Calls.{Call, post, replace, withdraw, year, Re
 use Rattle.yearbook.specs.PlainBook.{PlainBook, openedPlain, standing, stands, sheetsOf, nowHolds, notKept, brought, withdrawn, numberIn, unitSums, told, called, plainReplies, plainAfter}
 use Rattle.yearbook.specs.LentBook.{openAnswer, bookOpened, lentReply, lentAfter}
 use Rattle.yearbook.specs.Theorem.{CallsMade, no-call, then, YearBook}
-use Rattle.yearbook.specs.Cases.Runs.{byArea, overcharged, oneUnit, otherId, answerOf, callOf, expected, run, run-right}
+use Rattle.yearbook.specs.Cases.Runs.{byArea, byRisers, overcharged, oneUnit, otherId, answerOf, callOf, expected, run, run-right}
 use Rattle.yearbook.specs.Cases.Written.{january, december, januaryNumbers, decemberSettled, ofMonth1, numbers, Left}
 use Rattle.yearbook.proofs.EveryList.{every-list-of-calls}
 use Rattle.yearbook.proofs.Written.{lent-lists}
@@ -84,19 +85,19 @@ record Said : Type 0 where
   stand : standing plain ≡ january ∷ december ∷ []
   first : lentReply last (year 0) ≡ totals 2 (263 ∷ 0 ∷ 0 ∷ 0 ∷ 3 ∷ 0 ∷ 0 ∷ 0 ∷ [])
   second : lentReply last (year 1) ≡ totals 2 (787 ∷ 0 ∷ 0 ∷ 0 ∷ 8 ∷ 0 ∷ 0 ∷ 0 ∷ [])
-  settles : settledSheet december ≡ settled decemberSettled
+  settles : settledSheet newest december ≡ settled decemberSettled
   energies : sumTo 2 (λ u. sumTo 4 (λ j. getD (unitSums plain u) j 0)) ≡ 1050
   cents : sumTo 2 (λ u. sumTo 4 (λ j. getD (unitSums plain u) (4 + j) 0)) ≡ 11
   -- the second unit's first energy by 750 + 37.5, its first cents by 7.5 + 0.74
   energy : Near 787 (1260000000000 over 1600000000) 8
   cent : Near 8 (412000 over 50000) 2
-  -- the lent list of the 16th call, withdraw 1, and of the last, where january stands again
-  cleared : Left (afterAll start (take 15 calls)) (afterAll start (take 16 calls)) (numbers 0 0 0 []) ofMonth1
-  written : Left (afterAll start (take 20 calls)) last (numbers 1 1000 10 januaryNumbers) ofMonth1
+  -- the lent list of the 19th call, withdraw 1, and of the last, where january stands again
+  cleared : Left (afterAll start (take 18 calls)) (afterAll start (take 19 calls)) (numbers 0 0 0 []) ofMonth1
+  written : Left (afterAll start (take 23 calls)) last (numbers 1 1000 10 januaryNumbers) ofMonth1
   each-accepted : repliesOf start six ≡ accepted ∷ accepted ∷ accepted ∷ accepted ∷ accepted ∷ accepted ∷ []
 
 at-run-said : Said
-unfolding calls six opening last lentAfter plainReplies run byArea overcharged oneUnit otherId unitBytes joined sheetBytes inBytes
+unfolding calls six opening last lentAfter plainReplies run byArea byRisers overcharged oneUnit otherId unitBytes joined sheetBytes inBytes
     openedPlain stands sheetsOf nowHolds notKept brought withdrawn numberIn unitSums told called plainAfter
     sharesBy all any firstRefusal unitRow rows sheetOf headerTests rowTests rowRules sheetRules
     allMetered meteredSum hasPool totalArea unreadWeight unreadWeights poolWeight readingSum readArea readSurface areaWeight surfaceWeight readWeight readWeights unitsOfClass litresOfClass1 personsOfClass2 waterWeight
@@ -116,7 +117,7 @@ at-run-said =
       cents = k .cents-add;
       energy = k .energy-near 1 0 (omega arith) (omega arith);
       cent = k .cents-near 1 0 (omega arith) (omega arith);
-      cleared = lent-lists .called .1 .0 .0 _ (ap (λ (l : List Reply). getD l 15 accepted) (at-run .same-replies));
-      written = lent-lists .called .0 .0 _ (ap (λ (l : List Reply). getD l 20 accepted) (at-run .same-replies));
+      cleared = lent-lists .called .1 .0 .0 _ (ap (λ (l : List Reply). getD l 18 accepted) (at-run .same-replies));
+      written = lent-lists .called .0 .0 _ (ap (λ (l : List Reply). getD l 23 accepted) (at-run .same-replies));
       each-accepted = at-calls six .same-replies;
     }

@@ -9,6 +9,7 @@ use native.Mathlib.Decide.{ℕ-discrete, decLt}
 use lib.ListN.{length, getD, take, drop, set, replicate, length-set, length-take, length-drop, length-replicate, getD-replicate}
 use lib.Seq.{getD-set-same, getD-set-other, getD-take, getD-drop, ext-getD}
 use Rattle.sheet.specs.declared.refusal.Outcome.the-variants.{Accepted}
+use Rattle.sheet.specs.RuleSets.{newest}
 use Rattle.sheet.specs.Layout.{sheetOf}
 use Rattle.sheet.specs.Check.{checked}
 use Rattle.sheet.proofs.Fits.{fits}
@@ -28,11 +29,11 @@ pub record At (b : List ℕ) (i : ℕ) (held : Option (List ℕ)) : Type 0 where
   pub mark : getD b (markAt i) 0 ≡ orZero (λ s. 1) held
   pub meter : getD b (meterAt i) 0 ≡ orZero (λ s. sheetOf s .sharedMeter) held
   pub bill : getD b (billAt i) 0 ≡ orZero (λ s. billCents (sheetOf s)) held
-  pub block : (k : ℕ) → k < blockLength → getD b (blockAt i + k) 0 ≡ orZero (λ s. getD (statementOf (sheetOf s)) k 0) held
+  pub block : (k : ℕ) → k < blockLength → getD b (blockAt i + k) 0 ≡ orZero (λ s. getD (statementOf newest (sheetOf s)) k 0) held
 
 -- a sheet of n units that settles
 pub record Good (n : ℕ) (sheet : List ℕ) : Type 0 where
-  pub settles : settledSheet sheet ≡ Settled.settled (monthOf (sheetOf sheet))
+  pub settles : settledSheet newest sheet ≡ Settled.settled (monthOf newest (sheetOf sheet))
   pub units : sheetOf sheet .unitCount ≡ n
 
 pub record Shows (n : ℕ) (b : List ℕ) (p : PlainBook) : Type 0 where
@@ -68,12 +69,12 @@ module _ {n : ℕ} {b : List ℕ} {p : PlainBook} (h : Shows n b p) where
 -- the statement with zeros after it
 blockOf : Option (List ℕ) → List ℕ
 blockOf none = replicate blockLength 0
-blockOf (some s) = padded (sheetOf s .unitCount) (statementOf (sheetOf s))
+blockOf (some s) = padded (sheetOf s .unitCount) (statementOf newest (sheetOf s))
 
-block-at : (held : Option (List ℕ)) (k : ℕ) → getD (blockOf held) k 0 ≡ orZero (λ s. getD (statementOf (sheetOf s)) k 0) held
+block-at : (held : Option (List ℕ)) (k : ℕ) → getD (blockOf held) k 0 ≡ orZero (λ s. getD (statementOf newest (sheetOf s)) k 0) held
 unfolding blockOf
 block-at none k = zero-at blockLength k
-block-at (some s) k = zeros-after (statementOf (sheetOf s)) (blockLength - 8 * sheetOf s .unitCount) k
+block-at (some s) k = zeros-after (statementOf newest (sheetOf s)) (blockLength - 8 * sheetOf s .unitCount) k
 
 block-full : (n : ℕ) (held : Option (List ℕ)) → IfHeld (Good n) held → length (blockOf held) ≡ blockLength
 unfolding blockOf

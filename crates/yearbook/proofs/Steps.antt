@@ -11,6 +11,7 @@ use borrow.Author.Tests.{eqb-true, ltb-true, ltb-false, le-leb, not-true, not-fa
 use lib.ListN.{length, getD}
 use Rattle.apportion.specs.Shares.{sum}
 use Rattle.sheet.specs.declared.refusal.Refusal.the-variants.{OtherBuilding, MonthState, NoSuchUnit}
+use Rattle.sheet.specs.RuleSets.{newest}
 use Rattle.sheet.specs.Tests.{if_then_else_}
 use Rattle.sheet.specs.Check.{_to_, _within_, passes}
 use Rattle.sheet.specs.Layout.{sheetOf}
@@ -59,7 +60,7 @@ module _ {n : ℕ} {b : List ℕ} {p : PlainBook} (h : Shows n b p) where
   stands-so month first last = marked-so (getD (p .months) (month - 1) none) (h .months (month - 1) (omega arith))
 
   -- 16
-  building-so : (sheet : List ℕ) → otherBuilding b (sheetOf sheet) ≡ notKept p (monthOf (sheetOf sheet))
+  building-so : (sheet : List ℕ) → otherBuilding b (sheetOf sheet) ≡ notKept p (monthOf newest (sheetOf sheet))
   unfolding otherBuilding notKept monthOf
   building-so sheet =
       let s = sheetOf sheet in
@@ -67,7 +68,7 @@ module _ {n : ℕ} {b : List ℕ} {p : PlainBook} (h : Shows n b p) where
       rw (shows-ids h, h .count, ← h .plain-count, eqb-sym (p .unitCount) (s .unitCount), same-sym (p .ids) ids)
 
   -- ---- post and replace
-  bring-so : (replacing : Bool) (sheet : List ℕ) → settledSheet sheet ≡ Settled.settled (monthOf (sheetOf sheet))
+  bring-so : (replacing : Bool) (sheet : List ℕ) → settledSheet newest sheet ≡ Settled.settled (monthOf newest (sheetOf sheet))
       → (other wrong : Bool) → otherBuilding b (sheetOf sheet) ≡ other → wrongMonth replacing b sheet ≡ wrong
       → Follows n b (bringCall replacing sheet) (if other then refuse p OtherBuilding else if wrong then refuse p MonthState else nowHolds p (sheetOf sheet .month) (some sheet))
   unfolding nowHolds otherBuilding
@@ -78,22 +79,22 @@ module _ {n : ℕ} {b : List ℕ} {p : PlainBook} (h : Shows n b p) where
       let units = eqb-true _ _ (not-false (eqb (unitCountIn b) (sheetOf sheet .unitCount)) (neither (not (eqb (unitCountIn b) (sheetOf sheet .unitCount))) _ f .0)) in
       follows (bring-accepted w b sheet sound _ e f g) (shows-sheet h sheet (fit .monthLow) (fit .month) (record { settles = e; units = sym units ∙ h .count }))
 
-  in-year : (sheet : List ℕ) → settledSheet sheet ≡ Settled.settled (monthOf (sheetOf sheet)) → marked b (placeOfMonth sheet) ≡ stands p (sheetOf sheet .month)
+  in-year : (sheet : List ℕ) → settledSheet newest sheet ≡ Settled.settled (monthOf newest (sheetOf sheet)) → marked b (placeOfMonth sheet) ≡ stands p (sheetOf sheet .month)
   in-year sheet e =
       let fit = sheet-accepted sheet e .checked-sheet .header in
       stands-so (sheetOf sheet .month) (fit .monthLow) (fit .month)
 
   sheet-so : (replacing : Bool) (sheet : List ℕ) (wrong : ℕ → Bool)
-      → (settledSheet sheet ≡ Settled.settled (monthOf (sheetOf sheet)) → wrongMonth replacing b sheet ≡ wrong (sheetOf sheet .month))
-      → Follows n b (bringCall replacing sheet) (brought p sheet wrong (settledSheet sheet))
+      → (settledSheet newest sheet ≡ Settled.settled (monthOf newest (sheetOf sheet)) → wrongMonth replacing b sheet ≡ wrong (sheetOf sheet .month))
+      → Follows n b (bringCall replacing sheet) (brought p sheet wrong (settledSheet newest sheet))
   unfolding brought monthOf
-  sheet-so w sheet wrong k = go (settledSheet sheet) refl
+  sheet-so w sheet wrong k = go (settledSheet newest sheet) refl
     where
-      go : (o : Settled) → settledSheet sheet ≡ o → Follows n b (bringCall w sheet) (brought p sheet wrong o)
+      go : (o : Settled) → settledSheet newest sheet ≡ o → Follows n b (bringCall w sheet) (brought p sheet wrong o)
       go (Settled.refused r) e = follows (bring-refused w b sheet sound r (sheet-refused sheet r e)) h
       go (Settled.settled m) e =
           let own = own-month sheet e in
-          subst (λ (x : Month). Follows n b (bringCall w sheet) (brought p sheet wrong (Settled.settled x))) (sym (settled-month sheet m e .1))
+          subst (λ (x : Month). Follows n b (bringCall w sheet) (brought p sheet wrong (Settled.settled x))) (sym (settled-month newest sheet m e .1))
           (bring-so w sheet own _ _ (building-so sheet) (k own))
 
   -- ---- withdraw
@@ -127,10 +128,10 @@ module _ {n : ℕ} {b : List ℕ} {p : PlainBook} (h : Shows n b p) where
       ∙ sum-held (p .months) (λ s. 1)
       ∙ sum-ones (sheetsOf (p .months))
 
-  block-sum-so : (at : ℕ) → at < blockLength → blockSum b at ≡ sum (map (λ s. getD (statementOf (sheetOf s)) at 0) (standing p))
+  block-sum-so : (at : ℕ) → at < blockLength → blockSum b at ≡ sum (map (λ s. getD (statementOf newest (sheetOf s)) at 0) (standing p))
   unfolding blockSum
   block-sum-so at l =
-      let f : List ℕ → ℕ = λ s. getD (statementOf (sheetOf s)) at 0 in
+      let f : List ℕ → ℕ = λ s. getD (statementOf newest (sheetOf s)) at 0 in
       sumTo-cong 12 _ _ (λ i m. if-marked f _ (h .months i m) (h .months i m .block at l))
       ∙ ap (λ (k : ℕ). sumTo k (λ i. orZero f (getD (p .months) i none))) (sym (h .twelve))
       ∙ sum-held (p .months) f

@@ -7,6 +7,7 @@ use native.Mathlib.Omega.{arith}
 use native.Mathlib.Decide.{decLt}
 use lib.ListN.{length, getD, replicate}
 use Rattle.sheet.specs.declared.refusal.Outcome.the-variants.{Accepted}
+use Rattle.sheet.specs.RuleSets.{newest}
 use Rattle.sheet.specs.Layout.{sheetOf}
 use Rattle.sheet.specs.Check.{sheetRules, checked}
 use Rattle.sheet.proofs.Passed.{none-holds, holds-none, none-of-both}
@@ -35,10 +36,10 @@ module _ (b : List ℕ) where
       record { size = book-sound b (none-holds _ a .0) .size; is = rw a }
 
   -- a sheet that settles to m
-  module _ (sheet : List ℕ) (m : Month) (settles : settledSheet sheet ≡ settled m) where
+  module _ (sheet : List ℕ) (m : Month) (settles : settledSheet newest sheet ≡ settled m) where
     sheet-puts : putSheet b sheet ≡ putMonth b (m .month - 1) 1 (m .meter) (m .bill) (padded (m .unitCount) (m .numbers))
     unfolding putSheet monthOf
-    sheet-puts = rw (settled-month sheet m settles .1)
+    sheet-puts = rw (settled-month newest sheet m settles .1)
 
     bring-puts : (replacing : Bool) → lentReply b (bringCall replacing sheet) ≡ accepted
         → Puts b (lentAfter b (bringCall replacing sheet)) (m .month - 1) 1 (m .meter) (m .bill) (padded (m .unitCount) (m .numbers))
@@ -64,15 +65,15 @@ left {b} {after} {block} {i} {mark} {meter} {bill} p low full statement shown = 
 }
 
 -- ---- the two sheets
-january-settles : settledSheet january ≡ settled januarySettled
+january-settles : settledSheet newest january ≡ settled januarySettled
 january-settles = ap (λ (l : List Settled). getD l 0 (settled januarySettled)) both-settle
 
-december-settles : settledSheet december ≡ settled decemberSettled
+december-settles : settledSheet newest december ≡ settled decemberSettled
 december-settles = ap (λ (l : List Settled). getD l 1 (settled decemberSettled)) both-settle
 
 -- ---- a book opened with the first
-january-is : januarySettled ≡ monthOf (sheetOf january)
-january-is = settled-month january januarySettled january-settles .1
+january-is : januarySettled ≡ monthOf newest (sheetOf january)
+january-is = settled-month newest january januarySettled january-settles .1
 
 two : sheetOf january .unitCount ≡ 2
 unfolding monthOf
@@ -84,7 +85,7 @@ ids = ap (λ (m : Month). m .ids) (sym january-is)
 
 passes : checked 32 january ≡ Accepted
 unfolding checked settleRules
-passes = holds-none _ (none-of-both (sheetRules 32 january) (monthRules (sheetOf january)) (none-holds _ (settled-month january januarySettled january-settles .0)) .0)
+passes = holds-none _ (none-of-both (sheetRules 32 january) (monthRules (sheetOf january)) (none-holds _ (settled-month newest january januarySettled january-settles .0)) .0)
 
 fresh : Fresh (freshBook january)
 fresh = record {

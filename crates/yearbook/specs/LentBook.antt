@@ -13,6 +13,7 @@ use Rattle.sheet.specs.declared.refusal.Outcome.{Outcome}
 use Rattle.sheet.specs.declared.refusal.Outcome.the-variants.{Accepted, Refused}
 use Rattle.sheet.specs.Tests.{if_then_else_, any}
 use Rattle.sheet.specs.Refusals.{Rule, _⇒_, firstRefusal}
+use Rattle.sheet.specs.RuleSets.{newest}
 use Rattle.sheet.specs.Layout.{Sheet, sheetOf}
 use Rattle.sheet.specs.Check.{sameList, sheetRules}
 use Rattle.month.specs.Month.{billCents, statementOf, settleRules}
@@ -84,9 +85,9 @@ padded n numbers = numbers ++ replicate (blockLength - 8 * n) 0
 unfoldable pub putMonth : List ℕ → ℕ → (mark meter bill : ℕ) → (block : List ℕ) → List ℕ
 putMonth b i mark meter bill block = sets (set (set (set b (markAt i) mark) (meterAt i) meter) (billAt i) bill) (blockAt i) block
 
--- posting and replacing write the settled sheet
+-- posting and replacing write the sheet as the newest rules settle it
 unfoldable pub putSheet : List ℕ → List ℕ → List ℕ
-putSheet b sheet = let s = sheetOf sheet in putMonth b (placeOfMonth sheet) 1 (s .sharedMeter) (billCents s) (padded (s .unitCount) (statementOf s))
+putSheet b sheet = let s = sheetOf sheet in putMonth b (placeOfMonth sheet) 1 (s .sharedMeter) (billCents s) (padded (s .unitCount) (statementOf newest s))
 
 -- withdrawing zeroes all four
 unfoldable pub clearMonth : List ℕ → ℕ → List ℕ

@@ -8,6 +8,7 @@ use lib.ListN.{length, getD, set, replicate}
 use Rattle.apportion.specs.Shares.{sum}
 use Rattle.sheet.specs.declared.refusal.Refusal.{Refusal}
 use Rattle.sheet.specs.declared.refusal.Refusal.the-variants.{OtherBuilding, MonthState, NoSuchUnit}
+use Rattle.sheet.specs.RuleSets.{newest}
 use Rattle.sheet.specs.Tests.{if_then_else_}
 use Rattle.sheet.specs.Layout.{sheetOf}
 use Rattle.sheet.specs.Check.{_to_, _within_, passes, sameList}
@@ -66,8 +67,8 @@ tell p k sums = record { reply = totals k sums; after = p }
 unfoldable pub notKept : PlainBook → Month → Bool
 notKept p m = not (eqb (m .unitCount) (p .unitCount)) || not (sameList (m .ids) (p .ids))
 
--- Post and replace bring a sheet. They are refused by 1 to 12, by 16 when its n or ids aren't the kept ones,
--- and by 17 when its month stands (post) or doesn't (replace); otherwise its month now holds that sheet.
+-- Post and replace bring a sheet and settle it by the newest rules (document 02, 2026-01). They are refused by 1 to 12,
+-- by 16 when its n or ids aren't the kept ones, and by 17 when its month stands (post) or doesn't (replace); otherwise its month now holds that sheet.
 unfoldable pub brought : PlainBook → (sheet : List ℕ) → (wrongMonth : ℕ → Bool) → Settled → Step
 brought p sheet wrongMonth (Settled.refused r) = refuse p r
 brought p sheet wrongMonth (Settled.settled m) =
@@ -81,9 +82,9 @@ withdrawn p month =
     if not (passes (month within 1 to 12)) || not (stands p month) then refuse p MonthState
     else nowHolds p month none
 
--- number j of the unit at a place in the statement that a sheet settles to
+-- number j of the unit at a place in the statement that a sheet settles to by the newest rules
 unfoldable pub numberIn : ℕ → ℕ → List ℕ → ℕ
-numberIn place j sheet = getD (statementOf (sheetOf sheet)) (8 * place + j) 0
+numberIn place j sheet = getD (statementOf newest (sheetOf sheet)) (8 * place + j) 0
 
 -- the eight sums of that unit's numbers in the statements of the standing months
 unfoldable pub unitSums : PlainBook → ℕ → List ℕ
@@ -96,8 +97,8 @@ told p place =
     else tell p (length (standing p)) (unitSums p place)
 
 unfoldable pub called : PlainBook → Call → Step
-called p (post sheet) = brought p sheet (λ month. stands p month) (settledSheet sheet)
-called p (replace sheet) = brought p sheet (λ month. not (stands p month)) (settledSheet sheet)
+called p (post sheet) = brought p sheet (λ month. stands p month) (settledSheet newest sheet)
+called p (replace sheet) = brought p sheet (λ month. not (stands p month)) (settledSheet newest sheet)
 called p (withdraw month) = withdrawn p month
 called p (year place) = told p place
 

@@ -7,6 +7,7 @@ use lib.ListN.{length, getD}
 use Rattle.apportion.specs.Shares.{sum}
 use Rattle.sheet.specs.declared.refusal.Outcome.{Outcome}
 use Rattle.sheet.specs.declared.refusal.Outcome.the-variants.{Accepted}
+use Rattle.sheet.specs.RuleSets.{newest}
 use Rattle.sheet.specs.Layout.{sheetOf}
 use Rattle.sheet.specs.Tests.{Each}
 use Rattle.sheet.specs.Check.{checked}
@@ -29,16 +30,17 @@ pub record Kept (n : ℕ) (p : PlainBook) (b : List ℕ) : Type 0 where
   -- "the year calls for all units give .. k is the number of those months, and a unit's eight sums, four of energy and four of cents,
   -- are the sums of its numbers in those months' statements under document 01"
   pub year-calls : (place : ℕ) → place < n → Answered b (year place) (totals (length (standing p)) (unitSums p place)) b
-  -- their sheets settle, to the month whose statement, M and bill these are
-  pub settled-months : Each (λ sheet. settledSheet sheet ≡ Settled.settled (monthOf (sheetOf sheet))) (standing p)
+  -- their sheets settle by the newest rules, to the month whose statement, M and bill these are
+  pub settled-months : Each (λ sheet. settledSheet newest sheet ≡ Settled.settled (monthOf newest (sheetOf sheet))) (standing p)
   -- "The energy sums of all units add exactly to the shared meter's readings,
   pub energies-add : sumTo n (λ u. sumTo 4 (λ j. getD (unitSums p u) j 0)) ≡ sum (map (λ sheet. sheetOf sheet .sharedMeter) (standing p))
   -- and their cent sums exactly to the bills."
   pub cents-add : sumTo n (λ u. sumTo 4 (λ j. getD (unitSums p u) (4 + j) 0)) ≡ sum (map (λ sheet. billCents (sheetOf sheet)) (standing p))
   -- "Each energy sum is at most 4k Wh from the sum of its unrounded portions in those months."
-  pub energy-near : (u j : ℕ) → u < n → j < 4 → Near (getD (unitSums p u) j 0) (sumᶠ (map (λ sheet. energyPortion (sheetOf sheet) u j) (standing p))) (4 * length (standing p))
+  -- By the newest rules (2026-01): "the year's 4 Wh a month is measured against it too".
+  pub energy-near : (u j : ℕ) → u < n → j < 4 → Near (getD (unitSums p u) j 0) (sumᶠ (map (λ sheet. energyPortion newest (sheetOf sheet) u j) (standing p))) (4 * length (standing p))
   -- "Each cent sum is at most k cents from the sum of the bills' parts by those months' settled energies."
-  pub cents-near : (u j : ℕ) → u < n → j < 4 → Near (getD (unitSums p u) (4 + j) 0) (sumᶠ (map (λ sheet. billPart (sheetOf sheet) u j) (standing p))) (length (standing p))
+  pub cents-near : (u j : ℕ) → u < n → j < 4 → Near (getD (unitSums p u) (4 + j) 0) (sumᶠ (map (λ sheet. billPart newest (sheetOf sheet) u j) (standing p))) (length (standing p))
 
 -- a book opened with a sheet, open's answer o, then calls with their replies, and the list b that they leave
 pub record YearBook (opening : List ℕ) (o : Outcome) (calls : List Call) (replies : List Reply) (b : List ℕ) : Type 0 where

@@ -77,7 +77,7 @@ fn settle_into(book: &mut [u32], sheet: &[u8], replacing: bool) -> Outcome
 {
     let n = header::header_field(sheet, header::UNIT_COUNT) as usize;
     let mut block = [0u32; layout::BLOCK_LENGTH];
-    let outcome = settlement::settle_checked(sheet, &mut block[..8 * n]);
+    let outcome = settlement::settle_checked(sheet::NEWEST, sheet, &mut block[..8 * n]);
     let Outcome::Accepted = outcome else {
         return outcome;
     };

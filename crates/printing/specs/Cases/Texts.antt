@@ -14,6 +14,7 @@ use Rattle.sheet.specs.Cases.Samples.{zeros, put, unitBytes, joined, sheetBytes
 use Rattle.month.specs.Weights.{allMetered, meteredSum, hasPool, totalArea, unreadWeight, unreadWeights, poolWeight, readingSum, readArea, readSurface, areaWeight, surfaceWeight, readWeight, readWeights, unitsOfClass, litresOfClass1, personsOfClass2, waterWeight}
 use Rattle.month.specs.Steps.{splitBy, inUnitOrder, unitByUnit, hotWater, spaceHeat, heatParts, poolShares, readShares, heat, commonHeat, waterParts, water, commonWater, energies}
 use Rattle.month.specs.Month.{hotWaterWh, spaceHeatWh, zeroWaterDivisor, zeroDivisor, monthRules, billCents, costs, fourAndFour, statementOf, monthOf, settleRules, settledSheet}
+use Rattle.month.specs.Cases.Months.{risersC}
 use Rattle.printing.specs.Text.{ascii, digitsUpTo, decimal}
 use Rattle.printing.specs.Printed.{firstLine, unitLines, refusalLine, printed, atFront}
 
@@ -50,6 +51,13 @@ cases =
     ∷ "12 228000 50000 0 0 2280 500 0 0\n"
     ∷ "13 456000 100000 0 0 4560 1000 0 0\n"
     ∷ [])
+    -- C by risers: model 4 with limits, by the newest rules
+    ∷ (risersC 50 1000 prints
+    "month 1 units 3 wh 1000000 cents 10000\n"
+    ∷ "11 571429 50000 0 0 5714 500 0 0\n"
+    ∷ "12 76190 50000 0 0 762 500 0 0\n"
+    ∷ "13 152381 100000 0 0 1524 1000 0 0\n"
+    ∷ [])
     ∷ ([] prints "refused 1 0\n" ∷ [])
     ∷ (put 116 5 caseA prints "refused 6 2\n" ∷ [])  -- status 5 in the third row
     ∷ (put 116 1 (put 133 0 (put 132 0 caseA)) prints "refused 12 0\n" ∷ [])  -- the third unit without a device
@@ -62,7 +70,7 @@ cases =
     ∷ []
 
 all-cases : map given cases ≡ map expected cases
-unfolding cases unitBytes joined sheetBytes inBytes printed firstLine unitLines refusalLine decimal digitsUpTo
+unfolding cases risersC unitBytes joined sheetBytes inBytes printed firstLine unitLines refusalLine decimal digitsUpTo
     sharesBy all any firstRefusal unitRow rows sheetOf headerTests rowTests rowRules sheetRules
     allMetered meteredSum hasPool totalArea unreadWeight unreadWeights poolWeight readingSum readArea readSurface areaWeight surfaceWeight readWeight readWeights unitsOfClass litresOfClass1 personsOfClass2 waterWeight
     splitBy inUnitOrder unitByUnit hotWater spaceHeat heatParts poolShares readShares heat commonHeat waterParts water commonWater energies

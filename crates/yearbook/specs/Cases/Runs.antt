@@ -30,6 +30,10 @@ byArea month M = sheet month 2 0 0 M (unit 11 100 ∷ unit 12 300 ∷ [])
 unfoldable pub overcharged : (month : ℕ) → List ℕ
 overcharged month = sheet month 3 30 31 1000 (heated 11 1 1000 500 0 ∷ heated 12 0 1000 1000 300 ∷ [])
 
+-- model 4, r 310,000 and 90,000; by the newest rules limited to 300,000 and 120,000
+unfoldable pub byRisers : (month M : ℕ) → List ℕ
+byRisers month M = sheet month 4 30 30 M (unitBytes 11 0 0 1000 100 10 0 100 0 0 ∷ unitBytes 12 0 0 1000 300 30 0 0 0 0 ∷ [])
+
 -- another n, another id
 unfoldable pub oneUnit : List ℕ
 oneUnit = sheet 2 2 0 0 1000 (unit 11 100 ∷ [])
@@ -60,6 +64,7 @@ expected (c gets a) = a
 
 -- The opening sheet passes 1 to 7 and doesn't settle.
 -- Of M 1,000 the units get 250 and 750, and of ten cents 2.5 and 7.5: the earlier gets the half. Of M 50 they get 13 and 37, and the second the cent.
+-- By risers they get 3,000 and 1,200 of 4,200 Wh, 30 and 12 of 42 cents.
 unfoldable pub run : List Line
 run =
     year 0 gets gives 0 (0 ∷ 0 ∷ 0 ∷ 0 ∷ 0 ∷ 0 ∷ 0 ∷ 0 ∷ [])
@@ -70,6 +75,9 @@ run =
     ∷ post (byArea 12 50) gets accepts
     ∷ replace (byArea 1 2000) gets accepts
     ∷ year 1 gets gives 2 (1537 ∷ 0 ∷ 0 ∷ 0 ∷ 16 ∷ 0 ∷ 0 ∷ 0 ∷ [])
+    ∷ post (byRisers 3 4200) gets accepts
+    ∷ year 0 gets gives 3 (3513 ∷ 0 ∷ 0 ∷ 0 ∷ 35 ∷ 0 ∷ 0 ∷ 0 ∷ [])
+    ∷ withdraw 3 gets accepts
     ∷ post [] gets refuses 1 0
     ∷ post (byArea 13 1000) gets refuses 4 0
     ∷ post (overcharged 2) gets refuses 12 0
@@ -88,7 +96,7 @@ run =
     ∷ []
 
 pub run-right : map answerOf (plainReplies (openedPlain (overcharged 6)) (map callOf run)) ≡ map expected run
-unfolding run byArea overcharged oneUnit otherId unitBytes joined sheetBytes inBytes
+unfolding run byArea byRisers overcharged oneUnit otherId unitBytes joined sheetBytes inBytes
     openedPlain stands sheetsOf nowHolds notKept brought withdrawn numberIn unitSums told called plainReplies
     sharesBy all any firstRefusal unitRow rows sheetOf headerTests rowTests rowRules sheetRules
     allMetered meteredSum hasPool totalArea unreadWeight unreadWeights poolWeight readingSum readArea readSurface areaWeight surfaceWeight readWeight readWeights unitsOfClass litresOfClass1 personsOfClass2 waterWeight

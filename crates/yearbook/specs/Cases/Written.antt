@@ -7,6 +7,7 @@ use lib.ListN.{length, getD}
 use Rattle.apportion.specs.Shares.{sharesBy}
 use Rattle.sheet.specs.Tests.{Each, all, any}
 use Rattle.sheet.specs.Refusals.{firstRefusal}
+use Rattle.sheet.specs.RuleSets.{newest}
 use Rattle.sheet.specs.Layout.{inBytes, unitRow, rows, sheetOf}
 use Rattle.sheet.specs.Check.{headerTests, rowTests, rowRules, sheetRules}
 use Rattle.sheet.specs.Cases.Samples.{unitBytes, joined, sheetBytes}
@@ -47,7 +48,7 @@ januarySettled = twoUnits 1 1000 10 januaryNumbers
 abbrev pub decemberSettled : Month
 decemberSettled = twoUnits 12 50 1 decemberNumbers
 
-pub both-settle : map settledSheet (january ∷ december ∷ []) ≡ map settled (januarySettled ∷ decemberSettled ∷ [])
+pub both-settle : map (settledSheet newest) (january ∷ december ∷ []) ≡ map settled (januarySettled ∷ decemberSettled ∷ [])
 unfolding byArea unitBytes joined sheetBytes inBytes
     sharesBy all any firstRefusal unitRow rows sheetOf headerTests rowTests rowRules sheetRules
     allMetered meteredSum hasPool totalArea unreadWeight unreadWeights poolWeight readingSum readArea readSurface areaWeight surfaceWeight readWeight readWeights unitsOfClass litresOfClass1 personsOfClass2 waterWeight

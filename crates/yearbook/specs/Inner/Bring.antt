@@ -6,6 +6,7 @@ use Prim.Native.Nat.{ℕ}
 use lib.Dec.{eqb}
 use lib.ListN.{getD}
 use Rattle.sheet.specs.declared.refusal.Outcome.the-variants.{Accepted}
+use Rattle.sheet.specs.RuleSets.{newest}
 use Rattle.sheet.specs.Layout.{sheetOf}
 use Rattle.sheet.specs.Check.{checked}
 use Rattle.month.specs.Month.{statementOf, monthOf, Settled, settledSheet}
@@ -32,5 +33,5 @@ pub record Passed (b sheet : List ℕ) : Type 0 where
 -- and 8 to 12, with its block
 pub record Brings (b sheet block : List ℕ) : Type 0 where
   pub passed : Passed b sheet
-  pub settles : settledSheet sheet ≡ Settled.settled (monthOf (sheetOf sheet))
-  pub block-is : block ≡ padded (sheetOf sheet .unitCount) (statementOf (sheetOf sheet))
+  pub settles : settledSheet newest sheet ≡ Settled.settled (monthOf newest (sheetOf sheet))
+  pub block-is : block ≡ padded (sheetOf sheet .unitCount) (statementOf newest (sheetOf sheet))

@@ -1,6 +1,7 @@
 -- What is added is the length of the line, bounded by the ranges of a sheet that fits.
 use borrow.Author.Needs.{needs}
 use native.Mathlib.Omega.{arith}
+use Rattle.sheet.specs.RuleSets.{newest}
 use Rattle.sheet.specs.Layout.{sheetOf}
 use Rattle.month.specs.Month.{monthOf}
 use Rattle.printing.proofs.Lines.{first-line-long, first-short}
@@ -52,7 +53,7 @@ returns c =
     let meter = c .before .before .before .header-field3 in
     let bill = c .before .bill-cents in
     let st = b .before .before .before in
-    let all = first-line-long {m = monthOf (sheetOf (st .args .sheet .now))} (record { month = month .ensures; count = count .ensures; meter = meter .ensures; bill = bill .ensures }) in
+    let all = first-line-long {m = monthOf newest (sheetOf (st .args .sheet .now))} (record { month = month .ensures; count = count .ensures; meter = meter .ensures; bill = bill .ensures }) in
     (omega (arith, all, b .number-len .ensures .0, c .before .before .before .before .number-len2 .ensures .0, c .before .before .number-len3 .ensures .0, c .decimal-len .ensures .0), omega (arith, first-short (st .pre)))
 
 pub first-line-len-spec : {M : Type 1} → statement M

@@ -5,6 +5,7 @@ use mathlib.Core.List.{map}
 use Prim.Native.Nat.{_+_, _*_, _-_, _≤_}
 use native.Mathlib.Omega.{arith}
 use lib.ListN.{length, drop, length-append}
+use Rattle.sheet.specs.RuleSets.{newest}
 use Rattle.sheet.specs.Layout.{sheetOf}
 use Rattle.month.specs.Month.{monthOf}
 use Rattle.printing.specs.Text.{decimal, line}
@@ -14,7 +15,7 @@ use Rattle.printing.proofs.lengths.unit_lines_len.Statement.{statement}
 use Rattle.printing.proofs.lengths.unit_lines_len.Tie as tie
 
 abbrev Inv-loop : tie.InvT-loop
-Inv-loop sheet statement len₀ i₀ i-end len i = (i ≤ i-end) × (i-end ≡ sheetOf sheet .unitCount) × (len ≤ 99 * i) × (len + length (unitLines (drop i (monthOf (sheetOf sheet) .ids)) (drop (8 * i) statement)) ≡ length (unitLines (monthOf (sheetOf sheet) .ids) statement))
+Inv-loop sheet statement len₀ i₀ i-end len i = (i ≤ i-end) × (i-end ≡ sheetOf sheet .unitCount) × (len ≤ 99 * i) × (len + length (unitLines (drop i (monthOf newest (sheetOf sheet) .ids)) (drop (8 * i) statement)) ≡ length (unitLines (monthOf newest (sheetOf sheet) .ids) statement))
 
 abbrev μ-loop : tie.MeasureT-loop
 μ-loop sheet statement len₀ i₀ i-end len i = i-end - i
@@ -62,7 +63,7 @@ loop-again : tie.Need-loop-again Inv-loop μ-loop
 loop-again c =
     let a = c .before .before .before .before .before .before .before .args in
     let l = c .before .before .before .before .loop in
-    let ids = monthOf (sheetOf (a .sheet .now)) .ids in
+    let ids = monthOf newest (sheetOf (a .sheet .now)) .ids in
     let numbers = a .statement .now in
     let id = c .before .before .unit-field in
     (omega arith, l .inv .1, omega arith, omega (arith, ap length (lines-next (a .sheet .now) numbers (l .i) (omega arith) (id .ensures)), length-append (line (decimal (id .result)) (map decimal (eight numbers (l .i)))) (unitLines (drop (l .i + 1) ids) (drop (8 * (l .i + 1)) numbers))))

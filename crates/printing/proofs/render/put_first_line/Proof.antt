@@ -4,6 +4,7 @@ use mathlib.Core.List.{List}
 use Prim.Native.Nat.{ℕ, _+_, _≤_}
 use native.Mathlib.Omega.{arith}
 use lib.ListN.{length}
+use Rattle.sheet.specs.RuleSets.{newest}
 use Rattle.sheet.specs.Layout.{sheetOf}
 use Rattle.month.specs.Month.{Month, monthOf}
 use Rattle.printing.specs.Text.{decimal}
@@ -16,7 +17,7 @@ use Rattle.printing.proofs.render.put_first_line.Tie as tie
 
 -- the four numbers are known
 abbrev monthIn : tie.After-bill-cents → Month
-monthIn c = monthOf (sheetOf (c .before .before .before .before .before .before .args .sheet .now))
+monthIn c = monthOf newest (sheetOf (c .before .before .before .before .before .before .args .sheet .now))
 
 numbers : (c : tie.After-bill-cents) → FirstLine (monthIn c) (c .before .before .before .header-field .result) (c .before .before .header-field2 .result) (c .before .header-field3 .result) (c .bill-cents .result)
 unfolding monthOf

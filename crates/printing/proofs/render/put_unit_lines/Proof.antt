@@ -5,6 +5,7 @@ use mathlib.Core.List.{List, map}
 use Prim.Native.Nat.{ℕ, _+_, _*_, _-_, _≤_}
 use native.Mathlib.Omega.{arith}
 use lib.ListN.{length, drop, length-append}
+use Rattle.sheet.specs.RuleSets.{newest}
 use Rattle.sheet.specs.Layout.{sheetOf}
 use Rattle.month.specs.Month.{monthOf}
 use Rattle.printing.specs.Text.{decimal, line}
@@ -15,7 +16,7 @@ use Rattle.printing.proofs.render.put_unit_lines.Statement.{statement}
 use Rattle.printing.proofs.render.put_unit_lines.Tie as tie
 
 abbrev linesFrom : (sheet statement : List ℕ) (i : ℕ) → List ℕ
-linesFrom sheet statement i = unitLines (drop i (monthOf (sheetOf sheet) .ids)) (drop (8 * i) statement)
+linesFrom sheet statement i = unitLines (drop i (monthOf newest (sheetOf sheet) .ids)) (drop (8 * i) statement)
 
 abbrev Inv-loop : tie.InvT-loop
 Inv-loop sheet statement text₀ at end₀ i₀ i-end text end i =

@@ -1,6 +1,7 @@
 -- 8 to 12, else the month.
 use mathlib.Core.Path.{sym, subst, _∙_}
 use native.Mathlib.Omega.{arith}
+use Rattle.sheet.specs.RuleSets.{newest}
 use Rattle.sheet.proofs.Fits.{fits}
 use Rattle.month.specs.Month.{Settled}
 use Rattle.settlement.proofs.Answers.{settles, statement-is}
@@ -27,7 +28,7 @@ print-month-requires c κs =
     let st = c .before .before .before .before .before .before .before .before .before .before .before in
     let o = c .before .before .before .before .before .before .settle-checked in
     let ok = sym (o .ensures .0) ∙ c .before .before .enum-told .given .1 in
-    (fits 32 (st .args .sheet .now) (st .pre .0), o .ensures .1 ∙ statement-is (st .args .sheet .now) (st .args .statement .now) (st .pre .0) (st .pre .1) ok, omega (arith, o .kept, st .pre .1))
+    (fits 32 (st .args .sheet .now) (st .pre .0), o .ensures .1 ∙ statement-is newest (st .args .sheet .now) (st .args .statement .now) (st .pre .0) (st .pre .1) ok, omega (arith, o .kept, st .pre .1))
 
 same-length : tie.Need-same-length
 same-length c = search needs
@@ -53,7 +54,7 @@ returns-2 c =
     let st = c .before .before .before .before .before .before .before .before .before .before .before .before .before .before in
     let o = c .before .before .before .before .before .before .before .before .before .settle-checked in
     let p = c .before .before .print-month in
-    subst (λ (x : Settled). Prints x (p .result) (st .args .text .now) (p .last .1 .1 .0)) (sym (settles (st .args .sheet .now) (st .args .statement .now) (st .pre .0) (st .pre .1) (sym (o .ensures .0) ∙ c .before .before .before .before .before .enum-told .given .1))) (p .ensures)
+    subst (λ (x : Settled). Prints x (p .result) (st .args .text .now) (p .last .1 .1 .0)) (sym (settles newest (st .args .sheet .now) (st .args .statement .now) (st .pre .0) (st .pre .1) (sym (o .ensures .0) ∙ c .before .before .before .before .before .enum-told .given .1))) (p .ensures)
 
 pub print-in-spec : {M : Type 1} → statement M
 print-in-spec =

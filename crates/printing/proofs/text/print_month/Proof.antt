@@ -4,6 +4,7 @@ use mathlib.Core.List.{List, _++_}
 use Prim.Native.Nat.{ℕ, _+_, _≤_}
 use native.Mathlib.Omega.{arith}
 use lib.ListN.{length, length-append}
+use Rattle.sheet.specs.RuleSets.{newest}
 use Rattle.sheet.specs.Layout.{sheetOf}
 use Rattle.month.specs.Month.{Month, settled, monthOf}
 use Rattle.printing.specs.Printed.{firstLine, unitLines, textOf, longest}
@@ -16,7 +17,7 @@ use Rattle.printing.proofs.text.print_month.Tie as tie
 
 -- both lengths are known
 abbrev monthIn : tie.After-unit-lines-len → Month
-monthIn c = monthOf (sheetOf (c .before .before .before .before .before .args .sheet .now))
+monthIn c = monthOf newest (sheetOf (c .before .before .before .before .before .args .sheet .now))
 
 text-is : (c : tie.After-unit-lines-len) → firstLine (monthIn c) ++ unitLines (monthIn c .ids) (c .before .before .before .before .before .args .statement .now) ≡ textOf (settled (monthIn c))
 unfolding monthOf
