@@ -6,6 +6,7 @@ pub mod Rounding
 pub mod Divisions
 pub mod Sums
 pub mod Laws
+pub mod Versions
 pub mod Places
 pub mod Bounds
 pub mod DivisionBounds

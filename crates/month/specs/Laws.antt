@@ -1,5 +1,5 @@
 -- The laws of a month, by all rules: what holds of every sheet that settles (`settled-laws`, proofs/Laws.antt); which divisions a month makes (`no-other-divisions`,
--- proofs/Divisions.antt); that H rounded up refuses the sheets that the exact H does (`same-refusals`, proofs/Rounding.antt).
+-- proofs/Divisions.antt); where version 2's rules move nothing (`limits-move-risers-alone`, proofs/Versions.antt); that H rounded up refuses the sheets that the exact H does (`same-refusals`, proofs/Rounding.antt).
 use mathlib.Core.Bool.{Bool, false}
 use mathlib.Core.Path.{_≡_}
 use mathlib.Core.List.{List, [], _∷_, _++_, map}
@@ -10,9 +10,10 @@ use lib.ListN.{length, getD}
 use Rattle.apportion.specs.Shares.{sum}
 use Rattle.sheet.specs.Tests.{if_then_else_, Each}
 use Rattle.sheet.specs.declared.rule_set.RuleSet.{RuleSet}
+use Rattle.sheet.specs.declared.rule_set.RuleSet.the-variants.{Version1, Version2}
 use Rattle.sheet.specs.Layout.{Sheet, sheetOf}
 use Rattle.month.specs.Fraction.{Fraction, Near}
-use Rattle.month.specs.Weights.{unreadUnits, allMetered, meteredSum, unreadWeights, poolWeight, readWeights, waterWeight, commonWaterWeight}
+use Rattle.month.specs.Weights.{unreadUnits, allMetered, meteredSum, unreadWeights, poolWeight, readingSum, readWeights, waterWeight, commonWaterWeight}
 use Rattle.month.specs.Steps.{sharesUnder, dividingBy, wholeWh, unrounded, item, hotWater, spaceHeat, heatParts, poolShares, waterParts, energies}
 use Rattle.month.specs.Month.{hotWaterWh, spaceHeatWh, billCents, costs, Month, monthOf, settled, settledSheet}
 use Rattle.month.specs.Portions.{energyPortion, billPart}
@@ -97,6 +98,11 @@ pub record MonthLaws (rules : RuleSet) (s : Sheet) (m : Month) : Type 0 where
 
 abbrev pub SettledLaws : Type 0
 SettledLaws = (rules : RuleSet) (bytes : List ℕ) (m : Month) → settledSheet rules bytes ≡ settled m → MonthLaws rules (sheetOf bytes) m
+
+-- ---- 2026-01
+-- By versions 1 and 2 a month comes out the same, unless it is of model 4 with B > 0.
+abbrev pub LimitsMoveRisersAlone : Type 0
+LimitsMoveRisersAlone = (s : Sheet) → (s .model ≡ 4 → readingSum s ≡ 0) → monthOf Version1 s ≡ monthOf Version2 s
 
 -- ---- 8, 9 and 11 by H rounded up and by the exact H
 -- a whole number below or above a fraction, by whole numbers over the fraction's lower
