@@ -19,6 +19,9 @@
  * Threads. Nothing is kept between calls, and the library has no data that it writes. Calls may run side by side as
  * long as no list that one of them writes is used by another.
  *
+ * Rules. Settling, printing, writing a record, posting and replacing go by the newest rules, those of archive version
+ * 2; reading a record goes by the rules of the record's own version, 1 or 2 (docs/FORMAT.md, "Archive versions").
+ *
  * Memory. No call uses the heap: memcpy and memset are all that the library needs from outside (`nm -u`). A call takes
  * at most HEATCOST_STACK bytes of stack: settling 18,000; printing, writing or reading a record, posting and replacing
  * 23,100; opening, withdrawing and the year call 200. `compare/run stack` measures this on a painted stack. The
@@ -135,12 +138,13 @@ uint32_t heatcost_settle(const uint8_t *sheet, size_t sheet_len, uint32_t *state
  * was. So NULL and 0 ask for the length alone. */
 uint64_t heatcost_print(const uint8_t *sheet, size_t sheet_len, uint8_t *text, size_t text_len);
 
-/* Writes the archive record of a sheet. Refusals 1 to 12, then 13 unless record_len is HEATCOST_RECORD_LEN(n). */
+/* Writes the archive record of a sheet, of version 2. Refusals 1 to 12, then 13 unless record_len is HEATCOST_RECORD_LEN(n). */
 uint32_t heatcost_write_record(const uint8_t *sheet, size_t sheet_len, uint8_t *record, size_t record_len);
 
-/* Checks a record: 14 for its head, the sheet's refusals 1 to 12, 14 for its statement. Accepted, the sheet is the
- * record's bytes from 8 on, heatcost_record_sheet_len of them. A change that leaves the settlement as it is isn't
- * found: this is no checksum. */
+/* Checks a record of version 1 or 2: 14 for its head, the sheet's refusals 1 to 12, 14 for a statement that isn't the
+ * sheet's by the version's rules. Accepted, the sheet is the record's bytes from 8 on, heatcost_record_sheet_len of
+ * them; settled now it may come out otherwise. A change that leaves the settlement as it is isn't found: this is no
+ * checksum. */
 uint32_t heatcost_read_record(const uint8_t *record, size_t record_len);
 
 /* How many bytes the sheet of a record has, HEATCOST_SHEET_LEN(n); 0 for a record that is refused. It makes the whole
