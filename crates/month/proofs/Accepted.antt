@@ -21,7 +21,7 @@ use Rattle.sheet.specs.Check.{sheetRules, checked}
 use Rattle.sheet.specs.Inner.Fits.{UnitFits, Fits}
 use Rattle.sheet.proofs.Passed.{none-holds, holds-none, none-of-both, none-of}
 use Rattle.sheet.proofs.Fits.{fits}
-use Rattle.month.specs.Weights.{those, sumOf, isRead, readUnits, allMetered, meteredSum, hasPool, totalArea, unreadWeights, poolWeight, limited, areaWeight, surfaceWeight, readWeight, readWeights}
+use Rattle.month.specs.Weights.{those, sumOf, isRead, readUnits, allMetered, meteredSum, hasPool, totalArea, unreadWeights, poolWeight, rBy, limited, areaWeight, surfaceWeight, readWeight, readWeights}
 use Rattle.month.specs.Weights.{readingSum, readArea, readSurface, unitsOfClass, litresOfClass1, personsOfClass2, waterWeight, commonWaterWeight}
 use Rattle.month.specs.Month.{hotWaterWh, spaceHeatWh, zeroWaterDivisor, zeroDivisor, monthRules, settleRules}
 use Rattle.month.specs.Inner.Accepted.{CheckedSheet, AcceptedSheet}
@@ -115,7 +115,7 @@ module _ (s : Sheet) (a : AcceptedSheet s) where
   unfolding areaWeight
   area-le b u z =
       let base = u .heatedArea * readingSum s in
-      let r = limited base ((100 - s .basePercent) * u .reading * readArea s + s .basePercent * u .heatedArea * readingSum s) in
+      let r = limited base (rBy s u (u .heatedArea) (readArea s)) in
       omega (arith, grows (u .heatedArea) (readingSum s) b, grows r (u .locationFactor) (z .locationFactorLow))
 
   module _ (rules : RuleSet) where
@@ -123,7 +123,7 @@ module _ (s : Sheet) (a : AcceptedSheet s) where
     unfolding surfaceWeight
     surface-le b h u z =
         let x = s .basePercent * u .riserSurface in
-        let r = (100 - s .basePercent) * u .reading * readSurface s + x * readingSum s in
+        let r = rBy s u (u .riserSurface) (readSurface s) in
         let base = u .riserSurface * readingSum s in
         let reaches : (limitsRisers rules ≡ true) ⊎ (u .riserSurface ≤ r) = elim h [ inl l ↦ inl l | inr v ↦ inr (omega (arith, mul-le-mul-right (u .riserSurface) v, grows x (readingSum s) b)) ] in
         omega (
@@ -136,7 +136,7 @@ module _ (s : Sheet) (a : AcceptedSheet s) where
     unfolding surfaceWeight
     reading-le l b v u z =
         let x = (100 - s .basePercent) * u .reading in
-        let r = x * readSurface s + s .basePercent * u .riserSurface * readingSum s in
+        let r = rBy s u (u .riserSurface) (readSurface s) in
         let h : 1 ≤ 100 - s .basePercent = omega arith in
         rw l (omega (arith, mul-le-mul-right (u .reading) h, grows x (readSurface s) b, grows r (u .locationFactor) (z .locationFactorLow)))
 

@@ -15,7 +15,7 @@ use Rattle.sheet.specs.RuleSets.{limitsRisers}
 use Rattle.sheet.specs.Layout.{UnitRow, Sheet}
 use Rattle.sheet.specs.Inner.Fits.{UnitFits}
 use Rattle.sheet.specs.Tests.{if_then_else_, Each}
-use Rattle.month.specs.Weights.{those, sumOf, isRead, meteredSum, totalArea, unreadWeight, unreadWeights, poolWeight, readingSum, readArea, readSurface, limited, areaWeight, surfaceWeight, readWeight, readWeights, unitsOfClass, litresOfClass1, personsOfClass2, waterWeight, commonWaterWeight}
+use Rattle.month.specs.Weights.{those, sumOf, isRead, meteredSum, totalArea, unreadWeight, unreadWeights, poolWeight, readingSum, readArea, readSurface, rBy, limited, areaWeight, surfaceWeight, readWeight, readWeights, unitsOfClass, litresOfClass1, personsOfClass2, waterWeight, commonWaterWeight}
 use Rattle.month.specs.Month.{billCents}
 use Rattle.month.specs.Inner.Accepted.{CheckedSheet}
 use Rattle.month.specs.Inner.Bounds.{SumBounds, WeightBounds}
@@ -101,7 +101,7 @@ module _ (s : Sheet) (c : CheckedSheet s) where
     area-weight-le : s .model ≤ 4 → areaWeight s u ≤ 24000000000000000
     unfolding areaWeight
     area-weight-le m =
-        let r : limited (u .heatedArea * readingSum s) ((100 - s .basePercent) * u .reading * readArea s + s .basePercent * u .heatedArea * readingSum s) ≤ 24000000000000 = omega (arith, base-le m (h .heatedArea)) in
+        let r : limited (u .heatedArea * readingSum s) (rBy s u (u .heatedArea) (readArea s)) ≤ 24000000000000 = omega (arith, base-le m (h .heatedArea)) in
         mul-le-mul r (h .locationFactor)
 
     reading-by-surface : s .model ≤ 4 → (100 - s .basePercent) * u .reading * readSurface s ≤ 8000000000000
@@ -113,7 +113,7 @@ module _ (s : Sheet) (c : CheckedSheet s) where
     surface-weight-le : (rules : RuleSet) → s .model ≤ 4 → surfaceWeight rules s u ≤ 24000000000000000
     unfolding surfaceWeight
     surface-weight-le rules m =
-        let r = (100 - s .basePercent) * u .reading * readSurface s + s .basePercent * u .riserSurface * readingSum s in
+        let r = rBy s u (u .riserSurface) (readSurface s) in
         let le : r ≤ 12800000000000 = omega (arith, reading-by-surface m, surface-by-readings m) in
         let base = u .riserSurface * readingSum s in
         mul-le-mul (limit-le (limitsRisers rules && ltb 0 (u .riserSurface)) base r (base-le m (h .riserSurface)) (omega arith)) (h .locationFactor)

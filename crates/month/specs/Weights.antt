@@ -73,20 +73,24 @@ readArea s = sumOf (λ u. u .heatedArea) (readUnits s)
 unfoldable pub readSurface : Sheet → ℕ
 readSurface s = sumOf (λ u. u .riserSurface) (readUnits s)
 
+-- r = (100 − v) × b × whole + v × own × B, by the unit's own p or s and the whole, A or S
+abbrev pub rBy : Sheet → UnitRow → (own whole : ℕ) → ℕ
+rBy s u own whole = (100 - s .basePercent) * u .reading * whole + s .basePercent * own * readingSum s
+
 -- r lowered to 300 × base, raised to 40 × base (articles 8 (6), (7) and 9 (6), (7))
-abbrev pub limited : ℕ → ℕ → ℕ
+abbrev pub limited : (base r : ℕ) → ℕ
 limited base r = max (40 * base) (min (300 * base) r)
 
--- model 3: r = (100 − v) × b × A + v × p × B, limited by p × B, then × KF
+-- model 3: r by p and A, limited by p × B, then × KF
 unfoldable pub areaWeight : Sheet → UnitRow → ℕ
 areaWeight s u =
-    let r = (100 - s .basePercent) * u .reading * readArea s + s .basePercent * u .heatedArea * readingSum s in
+    let r = rBy s u (u .heatedArea) (readArea s) in
     limited (u .heatedArea * readingSum s) r * u .locationFactor
 
--- model 4: r = (100 − v) × b × S + v × s × B; since 2026-01 limited by s × B, a unit with s = 0 keeps its r; then × KF
+-- model 4: r by s and S; since 2026-01 limited by s × B, a unit with s = 0 keeps its r; then × KF
 unfoldable pub surfaceWeight : RuleSet → Sheet → UnitRow → ℕ
 surfaceWeight rules s u =
-    let r = (100 - s .basePercent) * u .reading * readSurface s + s .basePercent * u .riserSurface * readingSum s in
+    let r = rBy s u (u .riserSurface) (readSurface s) in
     (if limitsRisers rules && ltb 0 (u .riserSurface) then limited (u .riserSurface * readingSum s) r else r) * u .locationFactor
 
 -- models 3 and 4 as above, model 5 b; if B = 0: p × KF, for model 4 s × KF (own)

@@ -7,7 +7,7 @@ ghost use Rattle.sheet.specs.Tests.{if_then_else_};
 ghost use Rattle.sheet.specs.RuleSets.{limitsRisers};
 ghost use Rattle.sheet.specs.Layout.{sheetOf};
 ghost use Rattle.sheet.specs.Inner.Fields.{unitOf};
-ghost use Rattle.month.specs.Weights.{limited, areaWeight, surfaceWeight, readWeight, unreadWeight, waterWeight, commonWaterWeight};
+ghost use Rattle.month.specs.Weights.{rBy, limited, areaWeight, surfaceWeight, readWeight, unreadWeight, waterWeight, commonWaterWeight};
 ghost use Rattle.weights.specs.Inner.Ready.{RowReady, Ready};
 use crate::basis::Basis;
 use crate::fields::field;
@@ -56,15 +56,23 @@ fn limit(base: u64, r: u64) -> u64
     larger(40 * base, smaller(300 * base, r))
 }
 
+// Step 4, models 3 and 4: r by the unit's own p or s, and the sum of it over the read units.
+fn r_by(s: &[u8], i: usize, t: Totals, own: u64, whole: u64) -> u64
+    requires { ⌜ RowReady (now s) i × Ready (now s) t × (sheetOf (now s) .model ≤ 4) × (own ≤ 10000) × (whole ≤ 1600000) ⌝ }
+    ensures { λ r. ⌜ (r ≡ rBy (sheetOf (now (s .entry))) (unitOf (sheetOf (now (s .entry))) i) own whole) × (r ≤ 16000000000000) ⌝ }
+{
+    let v = head(s, header::BASE_PERCENT);
+    mixed(v, field(s, i, rows::READING), whole, own, t.readings)
+}
+
 // Step 4, model 3.
 fn area_weight(s: &[u8], i: usize, t: Totals) -> u64
     requires { ⌜ RowReady (now s) i × Ready (now s) t × (sheetOf (now s) .model ≤ 4) ⌝ }
     ensures { λ r. ⌜ r ≡ areaWeight (sheetOf (now (s .entry))) (unitOf (sheetOf (now (s .entry))) i) ⌝ }
 {
-    let v = head(s, header::BASE_PERCENT);
     let p = field(s, i, rows::HEATED_AREA);
     let k = field(s, i, rows::LOCATION_FACTOR);
-    let r = mixed(v, field(s, i, rows::READING), t.readarea, p, t.readings);
+    let r = r_by(s, i, t, p, t.readarea);
     limit(p * t.readings, r) * k
 }
 
@@ -88,16 +96,9 @@ fn surface_weight(s: &[u8], i: usize, b: Basis) -> u64
     ensures { λ r. ⌜ r ≡ surfaceWeight (b .rules) (sheetOf (now (s .entry))) (unitOf (sheetOf (now (s .entry))) i) ⌝ }
 {
     let rules = b.rules;
-    let v = head(s, header::BASE_PERCENT);
     let surface = field(s, i, rows::RISER_SURFACE);
     let k = field(s, i, rows::LOCATION_FACTOR);
-    let r = mixed(
-        v,
-        field(s, i, rows::READING),
-        b.totals.surface,
-        surface,
-        b.totals.readings,
-    );
+    let r = r_by(s, i, b.totals, surface, b.totals.surface);
     limit_risers(rules, surface, surface * b.totals.readings, r) * k
 }
 
