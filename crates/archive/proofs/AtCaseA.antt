@@ -9,7 +9,7 @@ use Rattle.sheet.specs.declared.refusal.Outcome.the-variants.{Accepted, Refused
 use Rattle.sheet.specs.Tests.{all, any}
 use Rattle.sheet.specs.Refusals.{firstRefusal}
 use Rattle.sheet.specs.declared.rule_set.RuleSet.{RuleSet}
-use Rattle.sheet.specs.declared.rule_set.RuleSet.the-variants.{Version1, Version2}
+use Rattle.sheet.specs.declared.rule_set.RuleSet.the-variants.{Archive1, Archive2}
 use Rattle.sheet.specs.RuleSets.{archiveVersion}
 use Rattle.sheet.specs.Layout.{unitRow, rows, sheetOf, inBytes}
 use Rattle.sheet.specs.Check.{headerTests, rowTests, rowRules, sheetRules}
@@ -44,7 +44,7 @@ unfolding monthA damaged statementA recordA
     allMetered meteredSum hasPool totalArea unreadWeight unreadWeights poolWeight readingSum readArea readSurface areaWeight surfaceWeight readWeight readWeights unitsOfClass litresOfClass1 personsOfClass2 waterWeight
     splitBy inUnitOrder unitByUnit hotWater spaceHeat heatParts poolShares readShares heat commonHeat waterParts water commonWater energies
     hotWaterWh spaceHeatWh zeroWaterDivisor zeroDivisor monthRules billCents costs fourAndFour statementOf monthOf settleRules settledSheet
-computed Version1 = record {
+computed Archive1 = record {
   head = refl;
   settles = refl;
   inside = refl;
@@ -52,7 +52,7 @@ computed Version1 = record {
   damaged-head = refl;
   refuses = refl;
 }
-computed Version2 = record {
+computed Archive2 = record {
   head = refl;
   settles = refl;
   inside = refl;

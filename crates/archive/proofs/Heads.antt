@@ -6,7 +6,7 @@ use Prim.Native.Nat.{ℕ, _<_}
 use native.Mathlib.Omega.{arith}
 use lib.ListN.{length, take, length-take}
 use Rattle.sheet.specs.declared.rule_set.RuleSet.{RuleSet}
-use Rattle.sheet.specs.declared.rule_set.RuleSet.the-variants.{Version1, Version2}
+use Rattle.sheet.specs.declared.rule_set.RuleSet.the-variants.{Archive1, Archive2}
 use Rattle.sheet.specs.RuleSets.{ruleSets}
 use Rattle.sheet.specs.Check.{sameList}
 use Rattle.archive.specs.Record.{archiveHead}
@@ -19,8 +19,8 @@ use Rattle.archive.proofs.Bytes.{same-equal, refuted}
 -- each version's head names its rules
 named : (rules : RuleSet) → headAmong ruleSets (archiveHead rules) ≡ Right rules
 unfolding headAmong
-named Version1 = refl
-named Version2 = refl
+named Archive1 = refl
+named Archive2 = refl
 
 pub right-of : (rules : RuleSet) (bytes : List ℕ) → RightHead rules bytes → headOf bytes ≡ Right rules
 right-of rules bytes h = ap (headAmong ruleSets) h ∙ named rules

@@ -37,10 +37,10 @@ pub(crate) fn head_of(bytes: &[u8]) -> Head
     ensures { λ r. ⌜ r ≡ headOf (now (bytes .entry)) ⌝ }
 {
     if begins_with(bytes, &HEAD_1) {
-        return Head::Right(RuleSet::Version1);
+        return Head::Right(RuleSet::Archive1);
     }
     if begins_with(bytes, &HEAD_2) {
-        return Head::Right(RuleSet::Version2);
+        return Head::Right(RuleSet::Archive2);
     }
     Head::Wrong
 }

@@ -21,7 +21,7 @@ use Rattle.sheet.specs.Check.{sheetRules, checked}
 use Rattle.sheet.specs.Inner.Fits.{UnitFits, Fits}
 use Rattle.sheet.proofs.Passed.{none-holds, holds-none, none-of-both, none-of}
 use Rattle.sheet.proofs.Fits.{fits}
-use Rattle.month.specs.Weights.{those, sumOf, isRead, readUnits, allMetered, meteredSum, hasPool, totalArea, unreadWeights, poolWeight, rBy, limited, areaWeight, surfaceWeight, readWeight, readWeights}
+use Rattle.month.specs.Weights.{those, sumOf, isRead, readUnits, allMetered, meteredSum, hasPool, totalArea, unreadWeights, poolWeight, rBy, limited, riserLimited, areaWeight, surfaceWeight, readWeight, readWeights}
 use Rattle.month.specs.Weights.{readingSum, readArea, readSurface, unitsOfClass, litresOfClass1, personsOfClass2, waterWeight, commonWaterWeight}
 use Rattle.month.specs.Month.{hotWaterWh, spaceHeatWh, zeroWaterDivisor, zeroDivisor, monthRules, settleRules}
 use Rattle.month.specs.Inner.Accepted.{CheckedSheet, AcceptedSheet}
@@ -69,7 +69,7 @@ sum-those test f (u ∷ us) = elim (decided (test u)) [ inl e ↦ rw e (omega (a
 grows : (x k : ℕ) → 1 ≤ k → x ≤ x * k
 grows x k h = omega (arith, mul-le-mul-left x h)
 
--- where r is limited, it is at least its base
+-- x is reached by r limited, or by r itself
 limit-reaches : (limits : Bool) (x base r : ℕ) → x ≤ base → (limits ≡ true) ⊎ (x ≤ r) → x ≤ (if limits && ltb 0 x then limited base r else r)
 limit-reaches true x base r h k = elim (decLt 0 x) [ yes p ↦ rw (lt-ltb 0 x p) (omega arith) | no p ↦ omega arith ]
 limit-reaches false x base r h (inr k) = k
@@ -129,7 +129,7 @@ module _ (s : Sheet) (a : AcceptedSheet s) where
         omega (
           arith,
           limit-reaches (limitsRisers rules) (u .riserSurface) base r (grows (u .riserSurface) (readingSum s) b) reaches,
-          grows (if limitsRisers rules && ltb 0 (u .riserSurface) then limited base r else r) (u .locationFactor) (z .locationFactorLow),
+          grows (riserLimited rules (u .riserSurface) base r) (u .locationFactor) (z .locationFactorLow),
         )
 
     reading-le : limitsRisers rules ≡ false → 0 < readSurface s → s .basePercent ≡ 0 → (u : UnitRow) → UnitFits s u → u .reading ≤ surfaceWeight rules s u

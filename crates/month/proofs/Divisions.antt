@@ -9,14 +9,14 @@ use native.Mathlib.Decide.{decLt}
 use borrow.Author.Tests.{eqb-true, eqb-false}
 use lib.Dec.{eqb}
 use lib.ListN.{length, getD, drop}
-use Rattle.apportion.specs.Shares.{shares}
+use Rattle.apportion.specs.Shares.{sum}
 use Rattle.apportion.specs.Fair.{Fair}
 use Rattle.apportion.proofs.Laws.{shares-fair}
 use Rattle.sheet.specs.declared.rule_set.RuleSet.{RuleSet}
 use Rattle.sheet.specs.Layout.{UnitRow, Sheet}
 use Rattle.sheet.specs.Tests.{Each}
 use Rattle.month.specs.Weights.{unreadUnits, allMetered, unreadWeights, poolWeight, readWeights, waterWeight, commonWaterWeight}
-use Rattle.month.specs.Steps.{dividingBy, wholeWh, splitBy, inUnitOrder, unitByUnit, hotWater, spaceHeat, heatParts, poolShares, readShares, heat, commonHeat, waterParts, water, commonWater, energies}
+use Rattle.month.specs.Steps.{sharesUnder, dividingBy, wholeWh, splitBy, inUnitOrder, unitByUnit, hotWater, spaceHeat, heatParts, poolShares, readShares, heat, commonHeat, waterParts, water, commonWater, energies}
 use Rattle.month.specs.Month.{hotWaterWh, spaceHeatWh, billCents, costs}
 use Rattle.month.specs.Inner.Accepted.{AcceptedSheet}
 use Rattle.month.specs.Laws.{_by_, unitsHeatDivisions, heatDivisions, divisions, Divisible, Method, DoesAsShares, NoOtherDivisions}
@@ -39,6 +39,10 @@ way s = go (allMetered s) refl (eqb (s .model) 1) refl (eqb (s .model) 2) refl
     go false e false f true g = by-area e f g
     go false e false f false g = by-pool e f g
 
+-- ---- a division by the rules
+pub under-fair : (rules : RuleSet) (t : ℕ) (ws : List ℕ) → (sum ws ≡ 0 → t ≡ 0) → Fair t ws (sharesUnder rules t ws)
+under-fair rules t ws h = shares-fair t ws h
+
 -- ---- (100 − percent, percent)
 module _ (rules : RuleSet) (percent t : ℕ) where
   abbrev pub pair : List ℕ
@@ -47,12 +51,12 @@ module _ (rules : RuleSet) (percent t : ℕ) where
   pub split-divisible : Divisible (t by pair)
   split-divisible e = absurd (omega arith)
 
-  pub split-fair : Fair t pair (shares t pair)
-  split-fair = shares-fair t pair split-divisible
+  pub split-fair : Fair t pair (sharesUnder rules t pair)
+  split-fair = under-fair rules t pair split-divisible
 
   pub split-sum : splitBy wholeWh rules percent t .ofUnits + splitBy wholeWh rules percent t .common ≡ t
   unfolding splitBy
-  split-sum = omega (arith, sum-two (shares t pair) (split-fair .as-many), split-fair .adds-up)
+  split-sum = omega (arith, sum-two (sharesUnder rules t pair) (split-fair .as-many), split-fair .adds-up)
 
   pub split-none : percent ≡ 0 → splitBy wholeWh rules percent t .common ≡ 0
   unfolding splitBy
@@ -77,19 +81,19 @@ pub above-two : (s : Sheet) → AcceptedSheet s → eqb (s .model) 1 ≡ false �
 above-two s a p q = omega (arith, eqb-false (s .model) 1 p, eqb-false (s .model) 2 q, a .checked-sheet .header .modelLow)
 
 module _ (rules : RuleSet) (s : Sheet) (a : AcceptedSheet s) where
-  pub load-fair : eqb (s .model) 1 ≡ true → Fair (units-heat rules s) (map (λ u. u .heatLoad) (s .units)) (shares (units-heat rules s) (map (λ u. u .heatLoad) (s .units)))
-  load-fair e = shares-fair (units-heat rules s) (map (λ u. u .heatLoad) (s .units)) (positive (load-positive s a (eqb-true (s .model) 1 e)))
+  pub load-fair : eqb (s .model) 1 ≡ true → Fair (units-heat rules s) (map (λ u. u .heatLoad) (s .units)) (sharesUnder rules (units-heat rules s) (map (λ u. u .heatLoad) (s .units)))
+  load-fair e = under-fair rules (units-heat rules s) (map (λ u. u .heatLoad) (s .units)) (positive (load-positive s a (eqb-true (s .model) 1 e)))
 
-  pub area-fair : (t : ℕ) → Fair t (map (λ u. u .heatedArea) (s .units)) (shares t (map (λ u. u .heatedArea) (s .units)))
-  area-fair t = shares-fair t (map (λ u. u .heatedArea) (s .units)) (positive (area-positive s a))
+  pub area-fair : (t : ℕ) → Fair t (map (λ u. u .heatedArea) (s .units)) (sharesUnder rules t (map (λ u. u .heatedArea) (s .units)))
+  area-fair t = under-fair rules t (map (λ u. u .heatedArea) (s .units)) (positive (area-positive s a))
 
   pub pool-fair : Fair (units-heat rules s) (unreadWeights s ++ poolWeight s ∷ []) (poolShares wholeWh rules s)
   unfolding poolShares
-  pool-fair = shares-fair (units-heat rules s) (unreadWeights s ++ poolWeight s ∷ []) (positive (pool-positive s a))
+  pool-fair = under-fair rules (units-heat rules s) (unreadWeights s ++ poolWeight s ∷ []) (positive (pool-positive s a))
 
   pub read-fair : 3 ≤ s .model → Fair (pool rules s) (readWeights rules s) (readShares wholeWh rules s)
   unfolding readShares
-  read-fair m = shares-fair (pool rules s) (readWeights rules s) (positive (read-positive s a rules m))
+  read-fair m = under-fair rules (pool rules s) (readWeights rules s) (positive (read-positive s a rules m))
 
   pub water-divisible : Divisible (waterParts wholeWh rules s .ofUnits by map (waterWeight s) (s .units))
   unfolding waterParts hotWaterWh
@@ -113,11 +117,11 @@ module _ (rules : RuleSet) (s : Sheet) (a : AcceptedSheet s) where
 
   pub water-fair : Fair (waterParts wholeWh rules s .ofUnits) (map (waterWeight s) (s .units)) (water wholeWh rules s)
   unfolding water
-  water-fair = shares-fair (waterParts wholeWh rules s .ofUnits) (map (waterWeight s) (s .units)) water-divisible
+  water-fair = under-fair rules (waterParts wholeWh rules s .ofUnits) (map (waterWeight s) (s .units)) water-divisible
 
   pub common-water-fair : Fair (waterParts wholeWh rules s .common) (map commonWaterWeight (s .units)) (commonWater wholeWh rules s)
   unfolding commonWater
-  common-water-fair = shares-fair (waterParts wholeWh rules s .common) (map commonWaterWeight (s .units)) common-water-divisible
+  common-water-fair = under-fair rules (waterParts wholeWh rules s .common) (map commonWaterWeight (s .units)) common-water-divisible
 
   heat-divisible : Each Divisible (heatDivisions rules s)
   unfolding heatDivisions unitsHeatDivisions

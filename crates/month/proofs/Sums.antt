@@ -9,7 +9,6 @@ use native.Mathlib.Nat.{zero-mul}
 use lib.ListN.{length, length-map, length-append}
 use Rattle.apportion.specs.Shares.{sum}
 use Rattle.apportion.specs.Fair.{Fair}
-use Rattle.apportion.proofs.Laws.{shares-fair}
 use Rattle.sheet.specs.declared.rule_set.RuleSet.{RuleSet}
 use Rattle.sheet.specs.Layout.{UnitRow, Sheet}
 use Rattle.month.specs.Weights.{readUnits, unreadUnits, allMetered, meteredSum, unreadWeight, unreadWeights, poolWeight, readWeight, readWeights, waterWeight, commonWaterWeight}
@@ -18,7 +17,7 @@ use Rattle.month.specs.Month.{hotWaterWh, spaceHeatWh, billCents, costs}
 use Rattle.month.specs.Inner.Accepted.{AcceptedSheet}
 use Rattle.month.specs.Laws.{_by_, Divisible}
 use Rattle.month.proofs.Lists.{decided, sum-last, sum-whole, in-order-length, in-order-sum, by-unit-length, by-unit-sum}
-use Rattle.month.proofs.Divisions.{by-meters, by-load, by-area, by-pool, way, split-sum, units-heat, common-heat, above-two, load-fair, area-fair, pool-fair, read-fair, water-fair, common-water-fair}
+use Rattle.month.proofs.Divisions.{under-fair, by-meters, by-load, by-area, by-pool, way, split-sum, units-heat, common-heat, above-two, load-fair, area-fair, pool-fair, read-fair, water-fair, common-water-fair}
 
 -- as many shares as units
 as-many-units : (f : UnitRow → ℕ) (us : List UnitRow) {t : ℕ} {xs : List ℕ} → Fair t (map f us) xs → length xs ≡ length us
@@ -112,4 +111,4 @@ module _ (rules : RuleSet) (s : Sheet) (a : AcceptedSheet s) where
   -- THE CENTS ARE FAIR: 4n, AND ADD TO THE BILL
   pub costs-fair : Fair (billCents s) (energies wholeWh rules s) (costs rules s)
   unfolding costs
-  costs-fair = shares-fair (billCents s) (energies wholeWh rules s) bill-divisible
+  costs-fair = under-fair rules (billCents s) (energies wholeWh rules s) bill-divisible

@@ -4,7 +4,7 @@ use mathlib.Core.Logic.{inl, inr}
 use mathlib.Core.List.{map}
 use borrow.Author.Tests.{eq-eqb, eqb-true}
 use lib.Dec.{eqb}
-use Rattle.sheet.specs.declared.rule_set.RuleSet.the-variants.{Version1, Version2}
+use Rattle.sheet.specs.declared.rule_set.RuleSet.the-variants.{Archive1, Archive2}
 use Rattle.sheet.specs.Layout.{UnitRow, Sheet}
 use Rattle.month.specs.Weights.{readUnits, readingSum, readWeight, readWeights}
 use Rattle.month.specs.Steps.{wholeWh, splitBy, heatParts, poolShares, readShares, heat, commonHeat, waterParts, water, commonWater, energies}
@@ -13,26 +13,26 @@ use Rattle.month.specs.Laws.{LimitsMoveRisersAlone}
 use Rattle.month.proofs.Lists.{decided}
 
 module _ (s : Sheet) (h : s .model ≡ 4 → readingSum s ≡ 0) where
-  same-weight : (u : UnitRow) → readWeight Version1 s u ≡ readWeight Version2 s u
+  same-weight : (u : UnitRow) → readWeight Archive1 s u ≡ readWeight Archive2 s u
   unfolding readWeight
   same-weight u = elim (decided (eqb (s .model) 4)) [
     | inl e ↦ rw (eq-eqb (readingSum s) 0 (h (eqb-true (s .model) 4 e)))
     | inr e ↦ rw e
   ]
 
-  same-weights : readWeights Version1 s ≡ readWeights Version2 s
+  same-weights : readWeights Archive1 s ≡ readWeights Archive2 s
   unfolding readWeights
   same-weights = λ i. map (λ u. same-weight u i) (readUnits s)
 
-  same-read : readShares wholeWh Version1 s ≡ readShares wholeWh Version2 s
+  same-read : readShares wholeWh Archive1 s ≡ readShares wholeWh Archive2 s
   unfolding readShares poolShares heatParts splitBy
   same-read = rw same-weights
 
-  same-energies : energies wholeWh Version1 s ≡ energies wholeWh Version2 s
+  same-energies : energies wholeWh Archive1 s ≡ energies wholeWh Archive2 s
   unfolding energies heat poolShares heatParts splitBy commonHeat waterParts water commonWater
   same-energies = rw same-read
 
-  same-statement : statementOf Version1 s ≡ statementOf Version2 s
+  same-statement : statementOf Archive1 s ≡ statementOf Archive2 s
   unfolding statementOf costs
   same-statement = rw same-energies
 

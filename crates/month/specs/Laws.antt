@@ -10,7 +10,7 @@ use lib.ListN.{length, getD}
 use Rattle.apportion.specs.Shares.{sum}
 use Rattle.sheet.specs.Tests.{if_then_else_, Each}
 use Rattle.sheet.specs.declared.rule_set.RuleSet.{RuleSet}
-use Rattle.sheet.specs.declared.rule_set.RuleSet.the-variants.{Version1, Version2}
+use Rattle.sheet.specs.declared.rule_set.RuleSet.the-variants.{Archive1, Archive2}
 use Rattle.sheet.specs.Layout.{Sheet, sheetOf}
 use Rattle.month.specs.Fraction.{Fraction, Near}
 use Rattle.month.specs.Weights.{unreadUnits, allMetered, meteredSum, unreadWeights, poolWeight, readingSum, readWeights, waterWeight, commonWaterWeight}
@@ -102,7 +102,7 @@ SettledLaws = (rules : RuleSet) (bytes : List ℕ) (m : Month) → settledSheet 
 -- ---- 2026-01
 -- By versions 1 and 2 a month comes out the same, unless it is of model 4 with B > 0.
 abbrev pub LimitsMoveRisersAlone : Type 0
-LimitsMoveRisersAlone = (s : Sheet) → (s .model ≡ 4 → readingSum s ≡ 0) → monthOf Version1 s ≡ monthOf Version2 s
+LimitsMoveRisersAlone = (s : Sheet) → (s .model ≡ 4 → readingSum s ≡ 0) → monthOf Archive1 s ≡ monthOf Archive2 s
 
 -- ---- 8, 9 and 11 by H rounded up and by the exact H
 -- a whole number below or above a fraction, by whole numbers over the fraction's lower

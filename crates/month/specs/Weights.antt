@@ -87,11 +87,15 @@ areaWeight s u =
     let r = rBy s u (u .heatedArea) (readArea s) in
     limited (u .heatedArea * readingSum s) r * u .locationFactor
 
--- model 4: r by s and S; since 2026-01 limited by s × B, a unit with s = 0 keeps its r; then × KF
+-- r limited where the rules limit risers; with s = 0 it stays (2026-01)
+abbrev pub riserLimited : RuleSet → (surface base r : ℕ) → ℕ
+riserLimited rules surface base r = if limitsRisers rules && ltb 0 surface then limited base r else r
+
+-- model 4: r by s and S, limited by s × B as the rules say, then × KF
 unfoldable pub surfaceWeight : RuleSet → Sheet → UnitRow → ℕ
 surfaceWeight rules s u =
     let r = rBy s u (u .riserSurface) (readSurface s) in
-    (if limitsRisers rules && ltb 0 (u .riserSurface) then limited (u .riserSurface * readingSum s) r else r) * u .locationFactor
+    riserLimited rules (u .riserSurface) (u .riserSurface * readingSum s) r * u .locationFactor
 
 -- models 3 and 4 as above, model 5 b; if B = 0: p × KF, for model 4 s × KF (own)
 unfoldable pub readWeight : RuleSet → Sheet → UnitRow → ℕ

@@ -6,12 +6,12 @@ use Prim.Native.Nat.{ℕ, _^_, _≤_, _<_}
 use native.Mathlib.Omega.{arith}
 use borrow.Author.Tests.{eq-eqb, ne-eqb}
 use lib.ListN.{length, take, length-map, replicate}
-use Rattle.apportion.specs.Shares.{sum, remainder, shares}
+use Rattle.apportion.specs.Shares.{sum, remainder}
 use Rattle.apportion.proofs.Laws.{shares-none}
 use Rattle.sheet.specs.declared.rule_set.RuleSet.{RuleSet}
 use Rattle.sheet.specs.Layout.{UnitRow, Sheet, sheetOf}
 use Rattle.month.specs.Weights.{those, allMetered, totalArea, unreadWeights, readWeights}
-use Rattle.month.specs.Steps.{wholeWh, heat, commonHeat, waterParts, water, commonWater}
+use Rattle.month.specs.Steps.{sharesUnder, wholeWh, heat, commonHeat, waterParts, water, commonWater}
 use Rattle.month.specs.Inner.Accepted.{CheckedSheet}
 use Rattle.month.proofs.Accepted.{load-positive, area-positive}
 use Rattle.month.proofs.Bounds.{those-fewer, sum-bounds, weight-bounds}
@@ -77,7 +77,7 @@ module _ {bytes : List ℕ} {b : Basis} (a : Accepts bytes b) where
   persons-water = divides Persons refl (waterParts wholeWh rules s .common) (common-water-le rules s (a .accepted)) (common-water-divisible rules s (a .accepted))
 
   -- ---- nothing divided
-  pub zeros-shared : (by : By) {total : ℕ} {out : List ℕ} → total ≡ 0 → out ≡ replicate 160 0 → Shared total (weightsBy rules by s) out
+  pub zeros-shared : (by : By) {total : ℕ} {out : List ℕ} → total ≡ 0 → out ≡ replicate 160 0 → Shared rules total (weightsBy rules by s) out
   unfolding weightsBy
   zeros-shared by z e =
       let us = those (takesPart by) (s .units) in
@@ -86,27 +86,27 @@ module _ {bytes : List ℕ} {b : Basis} (a : Accepts bytes b) where
 
   -- ---- what each gives: a number for each unit
   module _ {total : ℕ} (out : List ℕ) where
-    over-units : (by : By) → All by → {whole : ℕ} → total ≡ whole → Shared total (weightsBy rules by s) out → take (b .units) out ≡ shares whole (map (weightOf rules by s) (s .units))
+    over-units : (by : By) → All by → {whole : ℕ} → total ≡ whole → Shared rules total (weightsBy rules by s) out → take (b .units) out ≡ sharesUnder rules whole (map (weightOf rules by s) (s .units))
     over-units by all {whole} e g =
         let k : length (weightsBy rules by s) ≡ b .units = ap length (of-all rules s by all) ∙ length-map (s .units) (weightOf rules by s) ∙ a .accepted .checked-sheet .unit-count ∙ sym (a .count) in
-        subst (λ (j : ℕ). take j out ≡ shares whole (map (weightOf rules by s) (s .units))) k (g ∙ rw (e, of-all rules s by all))
+        subst (λ (j : ℕ). take j out ≡ sharesUnder rules whole (map (weightOf rules by s) (s .units))) k (g ∙ rw (e, of-all rules s by all))
 
-    pub load-is : s .model ≡ 1 → total ≡ units-heat rules s → Shared total (weightsBy rules Load s) out → take (b .units) out ≡ heat wholeWh rules s
+    pub load-is : s .model ≡ 1 → total ≡ units-heat rules s → Shared rules total (weightsBy rules Load s) out → take (b .units) out ≡ heat wholeWh rules s
     unfolding heat allMetered
     load-is m e g = rw (ne-eqb (s .model) 5 (λ z. omega arith), eq-eqb (s .model) 1 m) (over-units Load refl e g)
 
-    pub area-is : s .model ≡ 2 → total ≡ units-heat rules s → Shared total (weightsBy rules Area s) out → take (b .units) out ≡ heat wholeWh rules s
+    pub area-is : s .model ≡ 2 → total ≡ units-heat rules s → Shared rules total (weightsBy rules Area s) out → take (b .units) out ≡ heat wholeWh rules s
     unfolding heat allMetered
     area-is m e g = rw (ne-eqb (s .model) 5 (λ z. omega arith), ne-eqb (s .model) 1 (λ z. omega arith), eq-eqb (s .model) 2 m) (over-units Area refl e g)
 
-    pub common-heat-is : total ≡ common-heat rules s → Shared total (weightsBy rules Area s) out → take (b .units) out ≡ commonHeat wholeWh rules s
+    pub common-heat-is : total ≡ common-heat rules s → Shared rules total (weightsBy rules Area s) out → take (b .units) out ≡ commonHeat wholeWh rules s
     unfolding commonHeat
     common-heat-is e g = over-units Area refl e g
 
-    pub water-is : total ≡ waterParts wholeWh rules s .ofUnits → Shared total (weightsBy rules Water s) out → take (b .units) out ≡ water wholeWh rules s
+    pub water-is : total ≡ waterParts wholeWh rules s .ofUnits → Shared rules total (weightsBy rules Water s) out → take (b .units) out ≡ water wholeWh rules s
     unfolding water
     water-is e g = over-units Water refl e g
 
-    pub common-water-is : total ≡ waterParts wholeWh rules s .common → Shared total (weightsBy rules Persons s) out → take (b .units) out ≡ commonWater wholeWh rules s
+    pub common-water-is : total ≡ waterParts wholeWh rules s .common → Shared rules total (weightsBy rules Persons s) out → take (b .units) out ≡ commonWater wholeWh rules s
     unfolding commonWater
     common-water-is e g = over-units Persons refl e g

@@ -65,7 +65,7 @@ module _ {bytes : List ℕ} {b : Basis} (a : Accepts bytes b) (m : 2 < sheetOf b
       pool-divides = (omega (arith, pool-is, pool-le rules s (a .accepted)), λ z. absurd (omega (arith, read-positive s (a .accepted) rules m)))
 
       -- STEPS 3 AND 4
-      pub heat-is : (read : List ℕ) → Shared v (weightsBy rules Read s) read → {xs : List ℕ} → xs ≡ order (s .units) unread read → xs ≡ heat wholeWh rules s
+      pub heat-is : (read : List ℕ) → Shared rules v (weightsBy rules Read s) read → {xs : List ℕ} → xs ≡ order (s .units) unread read → xs ≡ heat wholeWh rules s
       unfolding heat readShares weightsBy readWeights
       heat-is read g o =
           let r = length (readWeights rules s) in

@@ -23,32 +23,32 @@ pub fn bill_cents(s: &[u8]) -> u64
 // The bill divided over the 4n energies, with room for 4n numbers each.
 fn costs_in(
     s: &[u8],
-    b: Basis,
+    basis: Basis,
     weights: &mut [u64],
     remainders: &mut [u64],
     cents: &mut [u32],
     statement: &mut [u32],
 )
-    requires { ⌜ EnergiesWritten (now s) b (now statement) ⌝ }
-    requires { ⌜ (length (now weights) ≡ 4 * b .units) × (length (now remainders) ≡ 4 * b .units) × (length (now cents) ≡ 4 * b .units) ⌝ }
-    ensures { λ r. ⌜ now (statement .exit) ≡ statementOf (b .rules) (sheetOf (now (s .entry))) ⌝ }
+    requires { ⌜ EnergiesWritten (now s) basis (now statement) ⌝ }
+    requires { ⌜ (length (now weights) ≡ 4 * basis .units) × (length (now remainders) ≡ 4 * basis .units) × (length (now cents) ≡ 4 * basis .units) ⌝ }
+    ensures { λ r. ⌜ now (statement .exit) ≡ statementOf (basis .rules) (sheetOf (now (s .entry))) ⌝ }
 {
-    energy_weights(b.units, statement, weights);
+    energy_weights(basis.units, statement, weights);
     apportion::apportion(bill_cents(s), weights, remainders, cents);
-    put_costs(b.units, cents, statement);
+    put_costs(basis.units, cents, statement);
 }
 
-fn costs_up_to_16(s: &[u8], b: Basis, statement: &mut [u32])
-    requires { ⌜ EnergiesWritten (now s) b (now statement) × (b .units ≤ 16) ⌝ }
-    ensures { λ r. ⌜ now (statement .exit) ≡ statementOf (b .rules) (sheetOf (now (s .entry))) ⌝ }
+fn costs_up_to_16(s: &[u8], basis: Basis, statement: &mut [u32])
+    requires { ⌜ EnergiesWritten (now s) basis (now statement) × (basis .units ≤ 16) ⌝ }
+    ensures { λ r. ⌜ now (statement .exit) ≡ statementOf (basis .rules) (sheetOf (now (s .entry))) ⌝ }
 {
     let mut weights = [0u64; 64];
     let mut remainders = [0u64; 64];
     let mut cents = [0u32; 64];
-    let m = 4 * b.units;
+    let m = 4 * basis.units;
     costs_in(
         s,
-        b,
+        basis,
         &mut weights[..m],
         &mut remainders[..m],
         &mut cents[..m],
@@ -56,17 +56,17 @@ fn costs_up_to_16(s: &[u8], b: Basis, statement: &mut [u32])
     );
 }
 
-fn costs_up_to_160(s: &[u8], b: Basis, statement: &mut [u32])
-    requires { ⌜ EnergiesWritten (now s) b (now statement) ⌝ }
-    ensures { λ r. ⌜ now (statement .exit) ≡ statementOf (b .rules) (sheetOf (now (s .entry))) ⌝ }
+fn costs_up_to_160(s: &[u8], basis: Basis, statement: &mut [u32])
+    requires { ⌜ EnergiesWritten (now s) basis (now statement) ⌝ }
+    ensures { λ r. ⌜ now (statement .exit) ≡ statementOf (basis .rules) (sheetOf (now (s .entry))) ⌝ }
 {
     let mut weights = [0u64; 640];
     let mut remainders = [0u64; 640];
     let mut cents = [0u32; 640];
-    let m = 4 * b.units;
+    let m = 4 * basis.units;
     costs_in(
         s,
-        b,
+        basis,
         &mut weights[..m],
         &mut remainders[..m],
         &mut cents[..m],
@@ -75,13 +75,13 @@ fn costs_up_to_160(s: &[u8], b: Basis, statement: &mut [u32])
 }
 
 // The cents of a statement from its energies; few units need little room.
-pub(crate) fn write_costs(s: &[u8], b: Basis, statement: &mut [u32])
-    requires { ⌜ EnergiesWritten (now s) b (now statement) ⌝ }
-    ensures { λ r. ⌜ now (statement .exit) ≡ statementOf (b .rules) (sheetOf (now (s .entry))) ⌝ }
+pub(crate) fn write_costs(s: &[u8], basis: Basis, statement: &mut [u32])
+    requires { ⌜ EnergiesWritten (now s) basis (now statement) ⌝ }
+    ensures { λ r. ⌜ now (statement .exit) ≡ statementOf (basis .rules) (sheetOf (now (s .entry))) ⌝ }
 {
-    if b.units <= 16 {
-        costs_up_to_16(s, b, statement);
+    if basis.units <= 16 {
+        costs_up_to_16(s, basis, statement);
         return;
     }
-    costs_up_to_160(s, b, statement);
+    costs_up_to_160(s, basis, statement);
 }

@@ -23,15 +23,15 @@ pub(crate) fn share(total: u64, m: usize, weights: &[u64], out: &mut [u32])
 }
 
 // The total divided by the weights of the units that take part, at the front of a list that begins as zeros: with nothing to divide it stays.
-pub(crate) fn divide_by(s: &[u8], b: Basis, by: By, total: u64, out: &mut [u32])
-    requires { ⌜ Accepts (now s) b × (now out ≡ replicate 160 0) × Divides total (weightsBy (b .rules) by (sheetOf (now s))) ⌝ }
-    ensures { λ r. ⌜ Shared total (weightsBy (b .rules) by (sheetOf (now (s .entry)))) (now (out .exit)) ⌝ }
+pub(crate) fn divide_by(s: &[u8], basis: Basis, by: By, total: u64, out: &mut [u32])
+    requires { ⌜ Accepts (now s) basis × (now out ≡ replicate 160 0) × Divides total (weightsBy (basis .rules) by (sheetOf (now s))) ⌝ }
+    ensures { λ r. ⌜ Shared (basis .rules) total (weightsBy (basis .rules) by (sheetOf (now (s .entry)))) (now (out .exit)) ⌝ }
 {
     if total == 0 {
         return;
     }
     let mut weights = [0u64; 160];
-    let m = gather(s, b, by, &mut weights);
+    let m = gather(s, basis, by, &mut weights);
     share(total, m, &weights, out);
 }
 
@@ -43,7 +43,7 @@ pub struct Parts {
 
 // Divided by (100 − percent, percent), by any rules: of two remainders the larger is a half or more, so the first part is half up.
 pub(crate) fn split(percent: u64, total: u64) -> Parts
-    requires { ⌜ (total < 2 ^ 32 - 1) × (percent ≤ 100) ⌝ }
+    requires { ⌜ (total < 2 ^ 32 - 1) × (percent ≤ 50) ⌝ }
     ensures { λ r. ⌜ SplitParts percent total r ⌝ }
 {
     let units = (total * (100 - percent) + 50) / 100;

@@ -29,12 +29,12 @@ use weights::head;
 use weights::wide;
 
 // Step 2.
-pub(crate) fn heat_parts(s: &[u8], b: Basis, h: u64, c: Sum) -> Parts
-    requires { ⌜ Accepts (now s) b × (h ≡ hotWaterWh (sheetOf (now s))) × (c ≡ amountOf (meteredHeat (sheetOf (now s)))) ⌝ }
-    ensures { λ r. ⌜ HeatParts (b .rules) (sheetOf (now (s .entry))) r ⌝ }
+pub(crate) fn heat_parts(s: &[u8], basis: Basis, h: u64, c: Sum) -> Parts
+    requires { ⌜ Accepts (now s) basis × (h ≡ hotWaterWh (sheetOf (now s))) × (c ≡ amountOf (meteredHeat (sheetOf (now s)))) ⌝ }
+    ensures { λ r. ⌜ HeatParts (basis .rules) (sheetOf (now (s .entry))) r ⌝ }
 {
     let space_heat = head(s, header::SHARED_METER) - h;
-    if all_metered(s, b.units, b.totals) {
+    if all_metered(s, basis.units, basis.totals) {
         let metered = Sum::number(c);
         return Parts {
             units: metered,
@@ -45,23 +45,23 @@ pub(crate) fn heat_parts(s: &[u8], b: Basis, h: u64, c: Sum) -> Parts
 }
 
 // Step 2's exception: each unit's heat is its b.
-fn heat_by_meters(s: &[u8], b: Basis, out: &mut [u32])
-    requires { ⌜ Accepts (now s) b × (length (now out) ≡ 160) × (allMetered (sheetOf (now s)) ≡ true) ⌝ }
-    ensures { λ r. ⌜ take (b .units) (now (out .exit)) ≡ heat wholeWh (b .rules) (sheetOf (now (s .entry))) ⌝ }
+fn heat_by_meters(s: &[u8], basis: Basis, out: &mut [u32])
+    requires { ⌜ Accepts (now s) basis × (length (now out) ≡ 160) × (allMetered (sheetOf (now s)) ≡ true) ⌝ }
+    ensures { λ r. ⌜ take (basis .units) (now (out .exit)) ≡ heat wholeWh (basis .rules) (sheetOf (now (s .entry))) ⌝ }
 {
-    for i in 0..b.units {
+    for i in 0..basis.units {
         out[i] = rows::unit_field(s, i, rows::READING);
     }
 }
 
 // Step 3, models 3 to 5: the units not read, last the metered pool; returns how many are not read.
-fn pool_shares(s: &[u8], b: Basis, total: u64, out: &mut [u32]) -> usize
-    requires { ⌜ ByReadings (now s) b total (now out) ⌝ }
-    ensures { λ r. ⌜ (r < 160) × (r ≡ length (unreadUnits (sheetOf (now (s .entry))))) × (take (r + 1) (now (out .exit)) ≡ poolShares wholeWh (b .rules) (sheetOf (now (s .entry)))) ⌝ }
+fn pool_shares(s: &[u8], basis: Basis, total: u64, out: &mut [u32]) -> usize
+    requires { ⌜ ByReadings (now s) basis total (now out) ⌝ }
+    ensures { λ r. ⌜ (r < 160) × (r ≡ length (unreadUnits (sheetOf (now (s .entry))))) × (take (r + 1) (now (out .exit)) ≡ poolShares wholeWh (basis .rules) (sheetOf (now (s .entry)))) ⌝ }
 {
     let mut weights = [0u64; 160];
-    let m = gather(s, b, By::Unread, &mut weights);
-    weights[m] = 10000 * b.totals.area - b.totals.unread;
+    let m = gather(s, basis, By::Unread, &mut weights);
+    weights[m] = 10000 * basis.totals.area - basis.totals.unread;
     share(total, m + 1, &weights, out);
     m
 }
@@ -88,45 +88,51 @@ fn merge(s: &[u8], n: usize, unread: &[u32], read: &[u32], out: &mut [u32])
 }
 
 // Steps 3 and 4, models 3 to 5.
-fn heat_by_readings(s: &[u8], b: Basis, total: u64, out: &mut [u32])
-    requires { ⌜ ByReadings (now s) b total (now out) ⌝ }
-    ensures { λ r. ⌜ take (b .units) (now (out .exit)) ≡ heat wholeWh (b .rules) (sheetOf (now (s .entry))) ⌝ }
+fn heat_by_readings(s: &[u8], basis: Basis, total: u64, out: &mut [u32])
+    requires { ⌜ ByReadings (now s) basis total (now out) ⌝ }
+    ensures { λ r. ⌜ take (basis .units) (now (out .exit)) ≡ heat wholeWh (basis .rules) (sheetOf (now (s .entry))) ⌝ }
 {
     let mut unread = [0u32; 160];
     let mut read = [0u32; 160];
-    let m = pool_shares(s, b, total, &mut unread);
+    let m = pool_shares(s, basis, total, &mut unread);
     let pool = wide(unread[m]);
-    divide_by(s, b, By::Read, pool, &mut read);
-    merge(s, b.units, &unread, &read, out);
+    divide_by(s, basis, By::Read, pool, &mut read);
+    merge(s, basis.units, &unread, &read, out);
 }
 
 // Each unit's heat: by its meter, by q, by p, or by steps 3 and 4.
-fn unit_heat(s: &[u8], b: Basis, total: u64, out: &mut [u32])
-    requires { ⌜ UnitsHeat (now s) b total (now out) ⌝ }
-    ensures { λ r. ⌜ take (b .units) (now (out .exit)) ≡ heat wholeWh (b .rules) (sheetOf (now (s .entry))) ⌝ }
+fn unit_heat(s: &[u8], basis: Basis, total: u64, out: &mut [u32])
+    requires { ⌜ UnitsHeat (now s) basis total (now out) ⌝ }
+    ensures { λ r. ⌜ take (basis .units) (now (out .exit)) ≡ heat wholeWh (basis .rules) (sheetOf (now (s .entry))) ⌝ }
 {
-    if all_metered(s, b.units, b.totals) {
-        heat_by_meters(s, b, out);
+    if all_metered(s, basis.units, basis.totals) {
+        heat_by_meters(s, basis, out);
         return;
     }
     let model = head(s, header::MODEL);
     if model == 1 {
-        divide_by(s, b, By::Load, total, out);
+        divide_by(s, basis, By::Load, total, out);
         return;
     }
     if model == 2 {
-        divide_by(s, b, By::Area, total, out);
+        divide_by(s, basis, By::Area, total, out);
         return;
     }
-    heat_by_readings(s, b, total, out);
+    heat_by_readings(s, basis, total, out);
 }
 
 // Steps 3 to 5: each unit's heat, and its part of the common heat.
-pub(crate) fn heat_shares(s: &[u8], b: Basis, parts: Parts, units: &mut [u32], common: &mut [u32])
-    requires { ⌜ Accepts (now s) b × HeatParts (b .rules) (sheetOf (now s)) parts × (now units ≡ replicate 160 0) × (now common ≡ replicate 160 0) ⌝ }
-    ensures { λ _. ⌜ take (b .units) (now (units .exit)) ≡ heat wholeWh (b .rules) (sheetOf (now (s .entry))) ⌝ }
-    ensures { λ _. ⌜ take (b .units) (now (common .exit)) ≡ commonHeat wholeWh (b .rules) (sheetOf (now (s .entry))) ⌝ }
+pub(crate) fn heat_shares(
+    s: &[u8],
+    basis: Basis,
+    parts: Parts,
+    units: &mut [u32],
+    common: &mut [u32],
+)
+    requires { ⌜ Accepts (now s) basis × HeatParts (basis .rules) (sheetOf (now s)) parts × (now units ≡ replicate 160 0) × (now common ≡ replicate 160 0) ⌝ }
+    ensures { λ _. ⌜ take (basis .units) (now (units .exit)) ≡ heat wholeWh (basis .rules) (sheetOf (now (s .entry))) ⌝ }
+    ensures { λ _. ⌜ take (basis .units) (now (common .exit)) ≡ commonHeat wholeWh (basis .rules) (sheetOf (now (s .entry))) ⌝ }
 {
-    unit_heat(s, b, parts.units, units);
-    divide_by(s, b, By::Area, parts.common, common);
+    unit_heat(s, basis, parts.units, units);
+    divide_by(s, basis, By::Area, parts.common, common);
 }

@@ -28,26 +28,26 @@ use weights::refusal;
 use weights::sum_rows;
 
 // Steps 2 to 7 of a sheet that is not refused, into a list of 8n numbers.
-fn write_statement(s: &[u8], b: Basis, h: u64, c: Sum, statement: &mut [u32])
-    requires { ⌜ Accepts (now s) b × (h ≡ hotWaterWh (sheetOf (now s))) × (c ≡ amountOf (meteredHeat (sheetOf (now s)))) × (length (now statement) ≡ 8 * b .units) ⌝ }
-    ensures { λ r. ⌜ now (statement .exit) ≡ statementOf (b .rules) (sheetOf (now (s .entry))) ⌝ }
+fn write_statement(s: &[u8], basis: Basis, h: u64, c: Sum, statement: &mut [u32])
+    requires { ⌜ Accepts (now s) basis × (h ≡ hotWaterWh (sheetOf (now s))) × (c ≡ amountOf (meteredHeat (sheetOf (now s)))) × (length (now statement) ≡ 8 * basis .units) ⌝ }
+    ensures { λ r. ⌜ now (statement .exit) ≡ statementOf (basis .rules) (sheetOf (now (s .entry))) ⌝ }
 {
     let mut units_heat = [0u32; 160];
     let mut common_heat = [0u32; 160];
     let mut units_water = [0u32; 160];
     let mut common_water = [0u32; 160];
-    let parts = heat_parts(s, b, h, c);
-    heat_shares(s, b, parts, &mut units_heat, &mut common_heat);
-    water_shares(s, b, h, &mut units_water, &mut common_water);
+    let parts = heat_parts(s, basis, h, c);
+    heat_shares(s, basis, parts, &mut units_heat, &mut common_heat);
+    water_shares(s, basis, h, &mut units_water, &mut common_water);
     put_energies(
-        b.units,
+        basis.units,
         &units_heat,
         &common_heat,
         &units_water,
         &common_water,
         statement,
     );
-    bill::write_costs(s, b, statement);
+    bill::write_costs(s, basis, statement);
 }
 
 // A sheet that passes 1 to 7, by the rules: 8 to 12, then 13, then the statement.
@@ -67,12 +67,12 @@ pub fn settle_checked(rules: RuleSet, s: &[u8], statement: &mut [u32]) -> Outcom
     if statement.len() != 8 * n {
         return Outcome::Refused(Refusal::BufferLength);
     }
-    let b = Basis {
+    let basis = Basis {
         rules,
         units: n,
         totals: t,
     };
-    write_statement(s, b, h, c, statement);
+    write_statement(s, basis, h, c, statement);
     Outcome::Accepted
 }
 

@@ -12,12 +12,12 @@ use weights::Basis;
 use weights::gather::By;
 use weights::head;
 
-pub(crate) fn water_shares(s: &[u8], b: Basis, h: u64, units: &mut [u32], common: &mut [u32])
-    requires { ⌜ Accepts (now s) b × (h ≡ hotWaterWh (sheetOf (now s))) × (now units ≡ replicate 160 0) × (now common ≡ replicate 160 0) ⌝ }
-    ensures { λ _. ⌜ take (b .units) (now (units .exit)) ≡ water wholeWh (b .rules) (sheetOf (now (s .entry))) ⌝ }
-    ensures { λ _. ⌜ take (b .units) (now (common .exit)) ≡ commonWater wholeWh (b .rules) (sheetOf (now (s .entry))) ⌝ }
+pub(crate) fn water_shares(s: &[u8], basis: Basis, h: u64, units: &mut [u32], common: &mut [u32])
+    requires { ⌜ Accepts (now s) basis × (h ≡ hotWaterWh (sheetOf (now s))) × (now units ≡ replicate 160 0) × (now common ≡ replicate 160 0) ⌝ }
+    ensures { λ _. ⌜ take (basis .units) (now (units .exit)) ≡ water wholeWh (basis .rules) (sheetOf (now (s .entry))) ⌝ }
+    ensures { λ _. ⌜ take (basis .units) (now (common .exit)) ≡ commonWater wholeWh (basis .rules) (sheetOf (now (s .entry))) ⌝ }
 {
     let parts = split(head(s, header::COMMON_WATER_PERCENT), h);
-    divide_by(s, b, By::Water, parts.units, units);
-    divide_by(s, b, By::Persons, parts.common, common);
+    divide_by(s, basis, By::Water, parts.units, units);
+    divide_by(s, basis, By::Persons, parts.common, common);
 }

@@ -3,22 +3,22 @@ use mathlib.Core.Bool.{Bool, true, false}
 use mathlib.Core.List.{List, [], _∷_}
 use Prim.Native.Nat.{ℕ}
 use Rattle.sheet.specs.declared.rule_set.RuleSet.{RuleSet}
-use Rattle.sheet.specs.declared.rule_set.RuleSet.the-variants.{Version1, Version2}
+use Rattle.sheet.specs.declared.rule_set.RuleSet.the-variants.{Archive1, Archive2}
 
--- every version that is read
+-- every archive version that is read
 abbrev pub ruleSets : List RuleSet
-ruleSets = Version1 ∷ Version2 ∷ []
+ruleSets = Archive1 ∷ Archive2 ∷ []
 
 -- the number in a record's head
 abbrev pub archiveVersion : RuleSet → ℕ
-archiveVersion Version1 = 1  -- document 01
-archiveVersion Version2 = 2  -- from 2026-01 on
+archiveVersion Archive1 = 1  -- document 01
+archiveVersion Archive2 = 2  -- 2026-01
 
 -- step 4 limits r of model 4 (2026-01)
 abbrev pub limitsRisers : RuleSet → Bool
-limitsRisers Version1 = false
-limitsRisers Version2 = true
+limitsRisers Archive1 = false
+limitsRisers Archive2 = true
 
 -- new records, statements, year books and prints go by these
 abbrev pub newest : RuleSet
-newest = Version2
+newest = Archive2

@@ -3,19 +3,19 @@ ghost use mathlib.Core.Path.{_≡_};
 ghost use Rattle.sheet.specs.RuleSets.{limitsRisers};
 
 pub enum RuleSet {
-    Version1,
-    Version2,
+    Archive1,
+    Archive2,
 }
 
 // What is settled now goes by these.
-pub const NEWEST: RuleSet = RuleSet::Version2;
+pub const NEWEST: RuleSet = RuleSet::Archive2;
 
 // 2026-01.
 pub fn limits_risers(rules: RuleSet) -> bool
     ensures { λ r. ⌜ r ≡ limitsRisers rules ⌝ }
 {
     match rules {
-        RuleSet::Version1 => false,
-        RuleSet::Version2 => true,
+        RuleSet::Archive1 => false,
+        RuleSet::Archive2 => true,
     }
 }

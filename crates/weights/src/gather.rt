@@ -22,16 +22,16 @@ pub enum By {
     Persons,
 }
 
-fn weight(s: &[u8], i: usize, by: By, b: Basis) -> u64
-    requires { ⌜ RowReady (now s) i × Ready (now s) (b .totals) ⌝ }
-    ensures { λ r. ⌜ r ≡ weightOf (b .rules) by (sheetOf (now (s .entry))) (unitOf (sheetOf (now (s .entry))) i) ⌝ }
+fn weight(s: &[u8], i: usize, by: By, basis: Basis) -> u64
+    requires { ⌜ RowReady (now s) i × Ready (now s) (basis .totals) ⌝ }
+    ensures { λ r. ⌜ r ≡ weightOf (basis .rules) by (sheetOf (now (s .entry))) (unitOf (sheetOf (now (s .entry))) i) ⌝ }
 {
     match by {
         By::Load => field(s, i, rows::HEAT_LOAD),
         By::Area => field(s, i, rows::HEATED_AREA),
         By::Unread => units::unread_weight(s, i),
-        By::Read => units::read_weight(s, i, b),
-        By::Water => units::water_weight(s, i, b.totals),
+        By::Read => units::read_weight(s, i, basis),
+        By::Water => units::water_weight(s, i, basis.totals),
         By::Persons => units::common_water_weight(s, i),
     }
 }
@@ -58,13 +58,13 @@ fn part(s: &[u8], i: usize, by: By) -> usize
 }
 
 // Writes the weights one after the other; returns how many there are.
-pub fn gather(s: &[u8], b: Basis, by: By, out: &mut [u64]) -> usize
-    requires { ⌜ Ready (now s) (b .totals) × (b .units ≡ sheetOf (now s) .unitCount) × (length (now out) ≡ 160) ⌝ }
-    ensures { λ r. ⌜ (r ≤ b .units) × (take r (now (out .exit)) ≡ weightsBy (b .rules) by (sheetOf (now (s .entry)))) ⌝ }
+pub fn gather(s: &[u8], basis: Basis, by: By, out: &mut [u64]) -> usize
+    requires { ⌜ Ready (now s) (basis .totals) × (basis .units ≡ sheetOf (now s) .unitCount) × (length (now out) ≡ 160) ⌝ }
+    ensures { λ r. ⌜ (r ≤ basis .units) × (take r (now (out .exit)) ≡ weightsBy (basis .rules) by (sheetOf (now (s .entry)))) ⌝ }
 {
     let mut m: usize = 0;
-    for i in 0..b.units {
-        out[m] = weight(s, i, by, b);
+    for i in 0..basis.units {
+        out[m] = weight(s, i, by, basis);
         m += part(s, i, by);
     }
     m

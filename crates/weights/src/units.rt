@@ -1,13 +1,12 @@
 // The weight of a unit in each division (document 01, steps 3, 4 and 6).
 ghost use mathlib.Core.Path.{_≡_};
-ghost use mathlib.Core.Bool.{_&&_, _||_};
+ghost use mathlib.Core.Bool.{_||_};
 ghost use Prim.Native.Nat.{_+_, _*_, _-_, _≤_};
-ghost use lib.Dec.{ltb, eqb};
+ghost use lib.Dec.{eqb};
 ghost use Rattle.sheet.specs.Tests.{if_then_else_};
-ghost use Rattle.sheet.specs.RuleSets.{limitsRisers};
 ghost use Rattle.sheet.specs.Layout.{sheetOf};
 ghost use Rattle.sheet.specs.Inner.Fields.{unitOf};
-ghost use Rattle.month.specs.Weights.{rBy, limited, areaWeight, surfaceWeight, readWeight, unreadWeight, waterWeight, commonWaterWeight};
+ghost use Rattle.month.specs.Weights.{rBy, limited, riserLimited, areaWeight, surfaceWeight, readWeight, unreadWeight, waterWeight, commonWaterWeight};
 ghost use Rattle.weights.specs.Inner.Ready.{RowReady, Ready};
 use crate::basis::Basis;
 use crate::fields::field;
@@ -76,10 +75,10 @@ fn area_weight(s: &[u8], i: usize, t: Totals) -> u64
     limit(p * t.readings, r) * k
 }
 
-// Step 4, model 4 (2026-01): r where the rules limit it; a unit without riser surface keeps its r.
+// Step 4, model 4 (2026-01): r, limited where the rules say so; without riser surface it stays.
 fn limit_risers(rules: RuleSet, surface: u64, base: u64, r: u64) -> u64
     requires { ⌜ (base ≤ 80000000000) × (r ≤ 16000000000000) ⌝ }
-    ensures { λ o. ⌜ (o ≡ (if limitsRisers rules && ltb 0 surface then limited base r else r)) × (o ≤ 24000000000000) ⌝ }
+    ensures { λ o. ⌜ (o ≡ riserLimited rules surface base r) × (o ≤ 24000000000000) ⌝ }
 {
     if !limits_risers(rules) {
         return r;
@@ -91,15 +90,15 @@ fn limit_risers(rules: RuleSet, surface: u64, base: u64, r: u64) -> u64
 }
 
 // Step 4, model 4.
-fn surface_weight(s: &[u8], i: usize, b: Basis) -> u64
-    requires { ⌜ RowReady (now s) i × Ready (now s) (b .totals) × (sheetOf (now s) .model ≤ 4) ⌝ }
-    ensures { λ r. ⌜ r ≡ surfaceWeight (b .rules) (sheetOf (now (s .entry))) (unitOf (sheetOf (now (s .entry))) i) ⌝ }
+fn surface_weight(s: &[u8], i: usize, basis: Basis) -> u64
+    requires { ⌜ RowReady (now s) i × Ready (now s) (basis .totals) × (sheetOf (now s) .model ≤ 4) ⌝ }
+    ensures { λ r. ⌜ r ≡ surfaceWeight (basis .rules) (sheetOf (now (s .entry))) (unitOf (sheetOf (now (s .entry))) i) ⌝ }
 {
-    let rules = b.rules;
+    let rules = basis.rules;
     let surface = field(s, i, rows::RISER_SURFACE);
     let k = field(s, i, rows::LOCATION_FACTOR);
-    let r = r_by(s, i, b.totals, surface, b.totals.surface);
-    limit_risers(rules, surface, surface * b.totals.readings, r) * k
+    let r = r_by(s, i, basis.totals, surface, basis.totals.surface);
+    limit_risers(rules, surface, surface * basis.totals.readings, r) * k
 }
 
 // Step 4 without any reading: a field × KF.
@@ -111,22 +110,22 @@ fn by_factor(s: &[u8], i: usize, x: u64) -> u64
 }
 
 // Step 4.
-pub fn read_weight(s: &[u8], i: usize, b: Basis) -> u64
-    requires { ⌜ RowReady (now s) i × Ready (now s) (b .totals) ⌝ }
-    ensures { λ r. ⌜ r ≡ readWeight (b .rules) (sheetOf (now (s .entry))) (unitOf (sheetOf (now (s .entry))) i) ⌝ }
+pub fn read_weight(s: &[u8], i: usize, basis: Basis) -> u64
+    requires { ⌜ RowReady (now s) i × Ready (now s) (basis .totals) ⌝ }
+    ensures { λ r. ⌜ r ≡ readWeight (basis .rules) (sheetOf (now (s .entry))) (unitOf (sheetOf (now (s .entry))) i) ⌝ }
 {
     let model = head(s, header::MODEL);
-    if b.totals.readings == 0 {
+    if basis.totals.readings == 0 {
         if model == 4 {
             return by_factor(s, i, field(s, i, rows::RISER_SURFACE));
         }
         return by_factor(s, i, field(s, i, rows::HEATED_AREA));
     }
     if model == 3 {
-        return area_weight(s, i, b.totals);
+        return area_weight(s, i, basis.totals);
     }
     if model == 4 {
-        return surface_weight(s, i, b);
+        return surface_weight(s, i, basis);
     }
     field(s, i, rows::READING)
 }

@@ -8,7 +8,7 @@ use Rattle.apportion.specs.Shares.{sharesBy, shares}
 use Rattle.sheet.specs.Tests.{all, any}
 use Rattle.sheet.specs.Refusals.{numberOf, placeOf, firstRefusal}
 use Rattle.sheet.specs.declared.rule_set.RuleSet.{RuleSet}
-use Rattle.sheet.specs.declared.rule_set.RuleSet.the-variants.{Version1, Version2}
+use Rattle.sheet.specs.declared.rule_set.RuleSet.the-variants.{Archive1, Archive2}
 use Rattle.sheet.specs.Layout.{inBytes, unitRow, rows, sheetOf}
 use Rattle.sheet.specs.Check.{headerTests, rowTests, rowRules, sheetRules}
 use Rattle.sheet.specs.Cases.Samples.{unitBytes, joined, sheetBytes, heated, sheetA, unitsA, caseA}
@@ -271,17 +271,17 @@ oneUnread = sheet 4 0 10 0 0 30 0 3200 10000 (first 0) (unitBytes 11 1 0 1000 10
 casesByRules : List Case
 casesByRules =
     -- S 200, B 1,000: r 15.5, 1.5, 3 millions; limited 15, 2, 4.
-    heats Version1 (risersC 50 1000) gives numbers (620000 ∷ 60000 ∷ 120000 ∷ [])
-    ∷ heats Version2 (risersC 50 1000) gives numbers (571429 ∷ 76190 ∷ 152381 ∷ [])
+    heats Archive1 (risersC 50 1000) gives numbers (620000 ∷ 60000 ∷ 120000 ∷ [])
+    ∷ heats Archive2 (risersC 50 1000) gives numbers (571429 ∷ 76190 ∷ 152381 ∷ [])
     -- The first s 0, S 150: r 10.5, 1.5, 3 millions; the first keeps it, the others are raised to 2 and 4.
-    ∷ heats Version1 (risersC 0 1000) gives numbers (560000 ∷ 80000 ∷ 160000 ∷ [])
-    ∷ heats Version2 (risersC 0 1000) gives numbers (509091 ∷ 96970 ∷ 193939 ∷ [])
+    ∷ heats Archive1 (risersC 0 1000) gives numbers (560000 ∷ 80000 ∷ 160000 ∷ [])
+    ∷ heats Archive2 (risersC 0 1000) gives numbers (509091 ∷ 96970 ∷ 193939 ∷ [])
     -- KF 500 of the first, after the limits: 7.75, 1.5, 3 and 7.5, 2, 4.
-    ∷ heats Version1 (risersC 50 500) gives numbers (506123 ∷ 97959 ∷ 195918 ∷ [])
-    ∷ heats Version2 (risersC 50 500) gives numbers (444444 ∷ 118519 ∷ 237037 ∷ [])
+    ∷ heats Archive1 (risersC 50 500) gives numbers (506123 ∷ 97959 ∷ 195918 ∷ [])
+    ∷ heats Archive2 (risersC 50 500) gives numbers (444444 ∷ 118519 ∷ 237037 ∷ [])
     -- S 40, B 40: r 4,000, 80,000, 76,000, the first raised to 16,000.
-    ∷ heats Version1 oneUnread gives numbers (2400 ∷ 20 ∷ 400 ∷ 380 ∷ [])
-    ∷ heats Version2 oneUnread gives numbers (2400 ∷ 74 ∷ 372 ∷ 354 ∷ [])
+    ∷ heats Archive1 oneUnread gives numbers (2400 ∷ 20 ∷ 400 ∷ 380 ∷ [])
+    ∷ heats Archive2 oneUnread gives numbers (2400 ∷ 74 ∷ 372 ∷ 354 ∷ [])
     ∷ []
 
 pub cases : RuleSet → List Case
@@ -294,5 +294,5 @@ unfolding cases casesAtoL casesByHand casesByRules risersC oneUnread
     allMetered meteredSum hasPool totalArea unreadWeight unreadWeights poolWeight readingSum readArea readSurface areaWeight surfaceWeight readWeight readWeights unitsOfClass litresOfClass1 personsOfClass2 waterWeight
     splitBy inUnitOrder unitByUnit hotWater spaceHeat heatParts poolShares readShares heat commonHeat waterParts water commonWater energies
     hotWaterWh spaceHeatWh zeroWaterDivisor zeroDivisor monthRules billCents costs fourAndFour statementOf monthOf settleRules settledSheet
-all-cases Version1 = refl
-all-cases Version2 = refl
+all-cases Archive1 = refl
+all-cases Archive2 = refl

@@ -9,7 +9,7 @@ use lib.IntN.{ℤ, pos, negsuc, _*ℤ_}
 use Rattle.apportion.specs.Shares.{sharesBy}
 use Rattle.sheet.specs.Tests.{all}
 use Rattle.sheet.specs.declared.rule_set.RuleSet.{RuleSet}
-use Rattle.sheet.specs.declared.rule_set.RuleSet.the-variants.{Version1, Version2}
+use Rattle.sheet.specs.declared.rule_set.RuleSet.the-variants.{Archive1, Archive2}
 use Rattle.sheet.specs.Layout.{inBytes, unitRow, rows, sheetOf}
 use Rattle.sheet.specs.Cases.Samples.{zeros, unitBytes, joined, sheetBytes, heated, sheetA, unitsA}
 use Rattle.month.specs.Fraction.{Fraction, Near, _over_, _+ᶠ_, _-ᶠ_, sumᶠ, portion, portions}
@@ -105,20 +105,20 @@ cases rules =
     ++ centsOf rules (byArea 150) (4 over 3 ∷ 0 over 1 ∷ 0 over 1 ∷ 0 over 1 ∷ 2 over 3 ∷ 0 over 1 ∷ 0 over 1 ∷ 0 over 1 ∷ [])
     ++ centsOf rules (byArea 0) (0 over 1 ∷ 0 over 1 ∷ 0 over 1 ∷ 0 over 1 ∷ 0 over 1 ∷ 0 over 1 ∷ 0 over 1 ∷ 0 over 1 ∷ [])
     -- C by risers, s 50, 50, 100: r is in millions 15.5, 1.5, 3 of 20, and limited 15, 2, 4 of 21. The cents go by the settled Wh.
-    ++ portionsOf Version1 (risersC 50 1000) (
+    ++ portionsOf Archive1 (risersC 50 1000) (
     620000 over 1 ∷ 50000 over 1 ∷ 0 over 1 ∷ 0 over 1
     ∷ 60000 over 1 ∷ 50000 over 1 ∷ 0 over 1 ∷ 0 over 1
     ∷ 120000 over 1 ∷ 100000 over 1 ∷ 0 over 1 ∷ 0 over 1
     ∷ []
     )
-    ++ portionsOf Version2 (risersC 50 1000) (
+    ++ portionsOf Archive2 (risersC 50 1000) (
     4000000 over 7 ∷ 50000 over 1 ∷ 0 over 1 ∷ 0 over 1
     ∷ 1600000 over 21 ∷ 50000 over 1 ∷ 0 over 1 ∷ 0 over 1
     ∷ 3200000 over 21 ∷ 100000 over 1 ∷ 0 over 1 ∷ 0 over 1
     ∷ []
     )
-    ++ centsOf Version1 (risersC 50 1000) (6200 over 1 ∷ [])
-    ++ centsOf Version2 (risersC 50 1000) (571429 over 100 ∷ [])
+    ++ centsOf Archive1 (risersC 50 1000) (6200 over 1 ∷ [])
+    ++ centsOf Archive2 (risersC 50 1000) (571429 over 100 ∷ [])
     -- fractions added, and taken from each other
     ++ sumᶠ (1 over 2 ∷ 1 over 3 ∷ 1 over 7 ∷ []) equals 41 over 42
     ∷ (1 over 3 -ᶠ 1 over 2) equals record { upper = negsuc 0; lower = 6 }
@@ -141,8 +141,8 @@ unfolding cases given expected fromPlace portionsOf centsOf caseB caseC unitsD r
     allMetered meteredSum totalArea unreadWeight unreadWeights poolWeight readingSum readArea readSurface areaWeight surfaceWeight readWeight readWeights unitsOfClass litresOfClass1 personsOfClass2 waterWeight
     splitBy inUnitOrder unitByUnit hotWater spaceHeat heatParts poolShares readShares heat commonHeat waterParts water commonWater energies
     billCents energyPortion billPart
-all-cases Version1 = refl
-all-cases Version2 = refl
+all-cases Archive1 = refl
+all-cases Archive2 = refl
 
 -- ---- at most 1 away from 2.5: 2 and 3, not 1 and 4
 near-below : Near 2 (5 over 2) 1

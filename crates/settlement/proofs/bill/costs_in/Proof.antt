@@ -24,7 +24,7 @@ apportion-requires c κs =
     let p = st .pre in
     let s = sheetOf (st .args .s .now) in
     let a = p .0 .accepts .accepted in
-    let rules = st .args .b .rules in
+    let rules = st .args .basis .rules in
     let w = c .before .before .before .before .before .before .energy-weights in
     let b = c .before .before .before .bill-cents in (
       subst⁻¹ (λ (l : List ℕ). (b .result < 2 ^ 32 - 1) × (sum l < 2 ^ 62) × (sum l ≡ 0 → b .result ≡ 0)) (energies-are (p .0) _ _ (omega (arith, w .kept, p .1 .0)) (w .ensures)) (

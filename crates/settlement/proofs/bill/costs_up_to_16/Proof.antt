@@ -8,8 +8,8 @@ use borrow.Author.Needs.{needs}
 use Rattle.settlement.proofs.bill.costs_up_to_16.Statement.{statement}
 use Rattle.settlement.proofs.bill.costs_up_to_16.Tie as tie
 
-part : (st : tie.Start) → length {A = ℕ} (take (4 * st .args .b .units) (replicate 64 0)) ≡ 4 * st .args .b .units
-part st = lent-length 64 (4 * st .args .b .units) (omega (arith, st .pre .1))
+part : (st : tie.Start) → length {A = ℕ} (take (4 * st .args .basis .units) (replicate 64 0)) ≡ 4 * st .args .basis .units
+part st = lent-length 64 (4 * st .args .basis .units) (omega (arith, st .pre .1))
 
 mul-m : tie.Need-mul-m
 mul-m c = search needs

@@ -8,8 +8,8 @@ use borrow.Author.Needs.{needs}
 use Rattle.settlement.proofs.bill.costs_up_to_160.Statement.{statement}
 use Rattle.settlement.proofs.bill.costs_up_to_160.Tie as tie
 
-part : (st : tie.Start) → length {A = ℕ} (take (4 * st .args .b .units) (replicate 640 0)) ≡ 4 * st .args .b .units
-part st = lent-length 640 (4 * st .args .b .units) (omega (arith, st .pre .accepts .count, st .pre .accepts .ready .fits .header .unitCount))
+part : (st : tie.Start) → length {A = ℕ} (take (4 * st .args .basis .units) (replicate 640 0)) ≡ 4 * st .args .basis .units
+part st = lent-length 640 (4 * st .args .basis .units) (omega (arith, st .pre .accepts .count, st .pre .accepts .ready .fits .header .unitCount))
 
 mul-m : tie.Need-mul-m
 mul-m c = search needs

@@ -31,7 +31,7 @@ share-requires c κs =
     let few = p .0 .ready .fits .header .unitCount in
     let g = c .before .before .before .gather in (
       (omega (arith, p .0 .count, few), omega (arith, g .kept, p .0 .count, few), omega (arith, p .0 .count, few, ap length (p .1))),
-      rw (g .ensures .1) (p .2, weights-fit (st .args .b .rules) (sheetOf (st .args .s .now)) (p .0 .accepted .checked-sheet) (st .args .by)),
+      rw (g .ensures .1) (p .2, weights-fit (st .args .basis .rules) (sheetOf (st .args .s .now)) (p .0 .accepted .checked-sheet) (st .args .by)),
     )
 
 same-length : tie.Need-same-length

@@ -59,7 +59,7 @@ returns c =
     let st = c .before .before .before .before in
     let l = c .before .loop in
     let us = sheetOf (st .args .s .now) .units in
-    let e : l .i ≡ st .args .b .units = omega arith in
+    let e : l .i ≡ st .args .basis .units = omega arith in
     rw (st .pre .2, ← e) (l .inv .1 .1 ∙ ap (map (λ (u : UnitRow). u .reading)) (those-all _ ∙ take-all (l .i) us (omega arith)))
 
 pub heat-by-meters-spec : {M : Type 1} → statement M

@@ -59,7 +59,7 @@ unfolding heatParts spaceHeat hotWaterWh
 returns-2 c =
     let e = sym (c .before .before .before .all-metered .ensures) ∙ c .before .before .if1 .left in
     let parts = c .split .ensures in
-    let rules = c .before .before .before .before .before .before .args .b .rules in
+    let rules = c .before .before .before .before .before .before .args .basis .rules in
     record { units = rw e (parts .units rules ∙ (cc)); common = rw e (parts .common rules ∙ (cc)) }
 
 pub heat-parts-spec : {M : Type 1} → statement M

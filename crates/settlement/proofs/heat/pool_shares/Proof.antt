@@ -49,7 +49,7 @@ share-requires c κs =
     let a = p .asked .accepts .accepted in (
       (omega (arith, w .few), simp length-set (omega (arith, w .few, g .kept)), omega (arith, w .few, ap length (p .asked .zeros))),
       rw (w .weights)
-          ((omega (arith, p .asked .total-is, units-heat-le (st .args .b .rules) s a), λ z. absurd (omega (arith, pool-positive s a))), omega (arith, weight-bounds s (a .checked-sheet) (st .args .b .rules) .pool)),
+          ((omega (arith, p .asked .total-is, units-heat-le (st .args .basis .rules) s a), λ z. absurd (omega (arith, pool-positive s a))), omega (arith, weight-bounds s (a .checked-sheet) (st .args .basis .rules) .pool)),
     )
 
 same-length : tie.Need-same-length

@@ -58,11 +58,11 @@ write-costs-requires c κs =
     let h = c .before .before .before .before .before .before .before .before .before .before .before .before .before .before .before .before .heat-shares .ensures in
     let w = c .before .before .before .before .before .before .before .before .before .before .before .water-shares .ensures in
     let e = c .before .before .before .put-energies in
-    let count : st .args .b .units ≡ length (s .units) = p .0 .count ∙ sym (p .0 .accepted .checked-sheet .unit-count) in
+    let count : st .args .basis .units ≡ length (s .units) = p .0 .count ∙ sym (p .0 .accepted .checked-sheet .unit-count) in
     record {
       accepts = p .0;
       room = omega (arith, e .kept, p .3);
-      energy = λ k l. e .ensures .put k l ∙ ap (λ (xs : List ℕ). getD xs k 0) (energies-by-unit (st .args .b .rules) s _ _ _ _ count (h .0) (h .1) (w .0) (w .1));
+      energy = λ k l. e .ensures .put k l ∙ ap (λ (xs : List ℕ). getD xs k 0) (energies-by-unit (st .args .basis .rules) s _ _ _ _ count (h .0) (h .1) (w .0) (w .1));
     }
 
 same-length : tie.Need-same-length

@@ -10,9 +10,9 @@ use Rattle.settlement.proofs.water.water_shares.Tie as tie
 
 -- the two parts
 module _ (c : tie.After-split) where
-  parts-are : (c .split .result .units ≡ waterParts wholeWh (c .before .before .before .before .before .args .b .rules) (sheetOf (c .before .before .before .before .before .args .s .now)) .ofUnits) × (c .split .result .common ≡ waterParts wholeWh (c .before .before .before .before .before .args .b .rules) (sheetOf (c .before .before .before .before .before .args .s .now)) .common)
+  parts-are : (c .split .result .units ≡ waterParts wholeWh (c .before .before .before .before .before .args .basis .rules) (sheetOf (c .before .before .before .before .before .args .s .now)) .ofUnits) × (c .split .result .common ≡ waterParts wholeWh (c .before .before .before .before .before .args .basis .rules) (sheetOf (c .before .before .before .before .before .args .s .now)) .common)
   unfolding waterParts hotWaterWh
-  parts-are = let rules = c .before .before .before .before .before .args .b .rules in (c .split .ensures .units rules ∙ (cc), c .split .ensures .common rules ∙ (cc))
+  parts-are = let rules = c .before .before .before .before .before .args .basis .rules in (c .split .ensures .units rules ∙ (cc), c .split .ensures .common rules ∙ (cc))
 
 head-requires : tie.Need-head-requires
 head-requires c κs = search needs

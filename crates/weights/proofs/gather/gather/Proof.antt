@@ -53,7 +53,7 @@ loop-again c =
         omega (arith, c .part .ensures, bit-le (takesPart (a .by) u)),
         (
           simp length-set (l .inv .1 .1 .0),
-          turn-row (takesPart (a .by)) (weightOf (a .b .rules) (a .by) (sheetOf (a .s .now))) (a .s .now) (l .out) (l .i) (l .m) (c .before .weight .result) (c .part .result) (omega arith)
+          turn-row (takesPart (a .by)) (weightOf (a .basis .rules) (a .by) (sheetOf (a .s .now))) (a .s .now) (l .out) (l .i) (l .m) (c .before .weight .result) (c .part .result) (omega arith)
               (omega (arith, st .pre .0 .fits .header .unitCount)) (c .before .weight .ensures) (c .part .ensures) (l .inv .1 .1 .1),
         ),
       ),
@@ -69,7 +69,7 @@ returns c =
     let s = sheetOf (st .args .s .now) in
     let by = st .args .by in
     let l = c .before .loop in
-    (omega arith, l .inv .1 .1 .1 ∙ ap (chosen (takesPart by) (weightOf (st .args .b .rules) by s)) (take-all (l .i) (s .units) (omega (arith, st .pre .0 .fits .unitsLength))))
+    (omega arith, l .inv .1 .1 .1 ∙ ap (chosen (takesPart by) (weightOf (st .args .basis .rules) by s)) (take-all (l .i) (s .units) (omega (arith, st .pre .0 .fits .unitsLength))))
 
 pub gather-spec : {M : Type 1} → statement M
 gather-spec =

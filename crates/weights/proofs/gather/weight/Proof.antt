@@ -48,37 +48,37 @@ returns : tie.Need-returns
 returns c =
     let st = c .before .before .before .before in
     let s = sheetOf (st .args .s .now) in
-    c .field .ensures ∙ sym (ap (λ (by : By). weightOf (st .args .b .rules) by s (unitOf s (st .args .i))) (c .before .enum-told .given .1))
+    c .field .ensures ∙ sym (ap (λ (by : By). weightOf (st .args .basis .rules) by s (unitOf s (st .args .i))) (c .before .enum-told .given .1))
 
 returns-2 : tie.Need-returns-2
 returns-2 c =
     let st = c .before .before .before .before in
     let s = sheetOf (st .args .s .now) in
-    c .field2 .ensures ∙ sym (ap (λ (by : By). weightOf (st .args .b .rules) by s (unitOf s (st .args .i))) (c .before .enum-told2 .given .1))
+    c .field2 .ensures ∙ sym (ap (λ (by : By). weightOf (st .args .basis .rules) by s (unitOf s (st .args .i))) (c .before .enum-told2 .given .1))
 
 returns-3 : tie.Need-returns-3
 returns-3 c =
     let st = c .before .before .before .before in
     let s = sheetOf (st .args .s .now) in
-    c .unread-weight .ensures .0 ∙ sym (ap (λ (by : By). weightOf (st .args .b .rules) by s (unitOf s (st .args .i))) (c .before .enum-told3 .given .1))
+    c .unread-weight .ensures .0 ∙ sym (ap (λ (by : By). weightOf (st .args .basis .rules) by s (unitOf s (st .args .i))) (c .before .enum-told3 .given .1))
 
 returns-4 : tie.Need-returns-4
 returns-4 c =
     let st = c .before .before .before .before in
     let s = sheetOf (st .args .s .now) in
-    c .read-weight .ensures ∙ sym (ap (λ (by : By). weightOf (st .args .b .rules) by s (unitOf s (st .args .i))) (c .before .enum-told4 .given .1))
+    c .read-weight .ensures ∙ sym (ap (λ (by : By). weightOf (st .args .basis .rules) by s (unitOf s (st .args .i))) (c .before .enum-told4 .given .1))
 
 returns-5 : tie.Need-returns-5
 returns-5 c =
     let st = c .before .before .before .before in
     let s = sheetOf (st .args .s .now) in
-    c .water-weight .ensures ∙ sym (ap (λ (by : By). weightOf (st .args .b .rules) by s (unitOf s (st .args .i))) (c .before .enum-told5 .given .1))
+    c .water-weight .ensures ∙ sym (ap (λ (by : By). weightOf (st .args .basis .rules) by s (unitOf s (st .args .i))) (c .before .enum-told5 .given .1))
 
 returns-6 : tie.Need-returns-6
 returns-6 c =
     let st = c .before .before .before .before in
     let s = sheetOf (st .args .s .now) in
-    c .common-water-weight .ensures .0 ∙ sym (ap (λ (by : By). weightOf (st .args .b .rules) by s (unitOf s (st .args .i))) (c .before .enum-told6 .given .1))
+    c .common-water-weight .ensures .0 ∙ sym (ap (λ (by : By). weightOf (st .args .basis .rules) by s (unitOf s (st .args .i))) (c .before .enum-told6 .given .1))
 
 pub weight-spec : {M : Type 1} → statement M
 weight-spec =
