@@ -1,4 +1,5 @@
--- Writer and reader (specs/Theorems.antt) at the records of case A (document 01, "Printing", "Cases for the proofs") of each version: all that they ask can be met. Assumes nothing.
+-- Writer and reader (specs/Theorems.antt) at the records of case A (document 01, "Printing", "Cases for the proofs") of each archive version: all that they ask can be
+-- met. Assumes nothing.
 use mathlib.Core.Path.{_≡_, refl, sym, ap, _∙_}
 use mathlib.Core.List.{List}
 use Prim.Native.Nat.{ℕ}
@@ -25,8 +26,8 @@ use Rattle.archive.specs.Cases.Records.{statementA, recordA}
 use Rattle.archive.proofs.RoundTrip.{reader-accepts-exactly, written-is-read-back, one-record-a-sheet}
 
 -- a byte of the statement is another
-damaged : (version : ℕ) → List ℕ
-damaged version = put 152 33 (recordA version)
+damaged : (archive : ℕ) → List ℕ
+damaged archive = put 152 33 (recordA archive)
 
 -- ---- what is computed
 record Computed (rules : RuleSet) : Type 0 where

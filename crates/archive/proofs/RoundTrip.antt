@@ -1,27 +1,32 @@
 -- THE THEOREMS OF specs/Theorems.antt. Assumes nothing.
 use mathlib.Core.Path.{_≡_, refl, sym, ap, ap₂, subst, _∙_}
 use mathlib.Core.Bool.{true}
+use mathlib.Core.Logic.{inl, inr}
 use mathlib.Core.List.{List, _++_}
 use Prim.Native.Nat.{ℕ, _+_, _*_}
 use native.Mathlib.Omega.{arith}
+use lib.Dec.{eqb}
 use lib.ListN.{length, take, drop, take-append-drop}
 use lib.Seq.{take-at, drop-at}
 use borrow.Author.Tests.{not-false}
+use Rattle.sheet.specs.declared.refusal.Refusal.{Refusal}
 use Rattle.sheet.specs.declared.refusal.Outcome.the-variants.{Accepted}
 use Rattle.sheet.specs.Refusals.{firstRefusal}
 use Rattle.sheet.specs.declared.rule_set.RuleSet.{RuleSet}
-use Rattle.sheet.specs.RuleSets.{ruleSets}
+use Rattle.sheet.specs.RuleSets.{ruleSets, newest}
 use Rattle.sheet.specs.Layout.{Sheet, sheetOf, inBytes}
 use Rattle.sheet.specs.Check.{sameList, sheetRules, checked}
 use Rattle.sheet.proofs.Passed.{NoneHolds, none-holds, holds-none, both-none, none-of-both}
 use Rattle.sheet.proofs.Units.{sheet-append}
 use Rattle.sheet.proofs.Fits.{fits}
 use Rattle.sheet.proofs.Verdict.{part-checked}
-use Rattle.month.specs.Month.{Month, monthRules, statementOf, monthOf, settled, settleRules, settledSheet}
+use Rattle.month.specs.Month.{Month, monthRules, statementOf, monthOf, Settled, refused, settled, settleRules, settledSheet}
+use Rattle.month.proofs.Lists.{decided}
 use Rattle.month.proofs.Laws.{settled-month, settled-laws}
 use Rattle.archive.specs.Record.{archiveHead, archiveRecord}
+use Rattle.archive.specs.Writer.{writeAnswer, recordAfter}
 use Rattle.archive.specs.Reader.{body, sheetLength, headOf, bodyRules, readRules, readOutcome}
-use Rattle.archive.specs.Theorems.{RightHead, sheetInside, HoldsItsSettlement, ReaderAcceptsExactly, OtherHeadsRefused, WrittenIsReadBack, OneRecordASheet}
+use Rattle.archive.specs.Theorems.{RightHead, sheetInside, HoldsItsSettlement, ReaderAcceptsExactly, OtherHeadsRefused, WrittenIsReadBack, WriterReadBack, WriterIsReadBack, OneRecordASheet}
 use Rattle.archive.specs.declared.head.Head.{Head}
 use Rattle.archive.specs.declared.head.Head.the-variants.{Wrong, Right}
 use Rattle.archive.proofs.Bytes.{same-itself, same-equal, bytes-length}
@@ -145,9 +150,32 @@ pub other-heads-refused : OtherHeadsRefused
 unfolding readOutcome readRules firstRefusal
 other-heads-refused r h = rw (wrong-of ruleSets (take 8 r) h)
 
--- WHAT THE WRITER WRITES IS READ BACK AS THAT SHEET
+-- THE RECORD OF A SETTLED SHEET IS READ BACK AS THAT SHEET
 pub written-is-read-back : WrittenIsReadBack
 written-is-read-back rules sheet m e = record { accepted = record-accepted rules sheet m e; same-sheet = sheet-back rules sheet m e }
+
+-- AND SO IS WHAT THE WRITER WRITES
+taken : (sheet list : List ℕ) (m : Month) → settledSheet newest sheet ≡ settled m → writeAnswer sheet list ≡ Accepted → recordAfter sheet list ≡ archiveRecord newest sheet (m .numbers)
+unfolding writeAnswer recordAfter
+taken sheet list m s e = elim (decided (eqb (length list) (56 + 64 * m .unitCount))) [
+  | inl t ↦ rw (s, t)
+  | inr t ↦ let k = rw (s, t) at e in absurd (let z : _≡_ {A = ℕ} 0 1 = cc in omega arith)
+]
+
+refused-none : (sheet list : List ℕ) (r : Refusal) → settledSheet newest sheet ≡ refused r → writeAnswer sheet list ≡ Accepted → ⊥
+unfolding writeAnswer
+refused-none sheet list r s e = let k = rw s at e in absurd (let z : _≡_ {A = ℕ} 0 1 = cc in omega arith)
+
+pub writer-is-read-back : WriterIsReadBack
+unfolding archiveRecord
+writer-is-read-back sheet list e = go (settledSheet newest sheet) refl
+  where
+    go : (o : Settled) → settledSheet newest sheet ≡ o → WriterReadBack sheet list
+    go (refused r) s = absurd (refused-none sheet list r s e)
+    go (settled m) s =
+        let w = taken sheet list m s e in
+        let back = written-is-read-back newest sheet m s in
+        record { head = rw w; accepted = rw w (back .accepted); same-sheet = rw w (back .same-sheet) }
 
 -- TWO ACCEPTED RECORDS WITH THE SAME VERSION AND THE SAME SHEET ARE THE SAME BYTES
 pub one-record-a-sheet : OneRecordASheet

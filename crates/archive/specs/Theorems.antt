@@ -1,14 +1,16 @@
--- What writer and reader promise each other, for the rules of every archive version.
+-- What writer and reader promise each other, by the rules of every archive version.
 use mathlib.Core.Path.{_≡_}
 use mathlib.Core.List.{List}
 use Prim.Native.Nat.{ℕ}
 use lib.ListN.{take, drop}
 use Rattle.sheet.specs.declared.rule_set.RuleSet.{RuleSet}
+use Rattle.sheet.specs.RuleSets.{newest}
 use Rattle.sheet.specs.Layout.{inBytes}
 use Rattle.sheet.specs.declared.refusal.Refusal.the-variants.{BadArchive}
 use Rattle.sheet.specs.declared.refusal.Outcome.the-variants.{Accepted, Refused}
 use Rattle.month.specs.Month.{Month, settled, settledSheet}
 use Rattle.archive.specs.Record.{archiveHead, archiveRecord}
+use Rattle.archive.specs.Writer.{writeAnswer, recordAfter}
 use Rattle.archive.specs.Reader.{body, sheetLength, readOutcome}
 
 -- a record with the right head of a version, and the sheet inside
@@ -36,13 +38,22 @@ ReaderAcceptsExactly = (rules : RuleSet) (record-bytes : List ℕ) → RightHead
 abbrev pub OtherHeadsRefused : Type 0
 OtherHeadsRefused = (record-bytes : List ℕ) → ((rules : RuleSet) → RightHead rules record-bytes → ⊥) → readOutcome record-bytes ≡ Refused BadArchive
 
--- What the writer of a version writes is read back as that sheet.
+-- The record of a settled sheet, of every version, is read back as that sheet.
 pub record ReadBack (rules : RuleSet) (sheet : List ℕ) (m : Month) : Type 0 where
   pub accepted : readOutcome (archiveRecord rules sheet (m .numbers)) ≡ Accepted
   pub same-sheet : sheetInside (archiveRecord rules sheet (m .numbers)) ≡ sheet
 
 abbrev pub WrittenIsReadBack : Type 0
 WrittenIsReadBack = (rules : RuleSet) (sheet : List ℕ) (m : Month) → settledSheet rules sheet ≡ settled m → ReadBack rules sheet m
+
+-- What the writer writes is read back as that sheet, and has the newest version's head.
+pub record WriterReadBack (sheet list : List ℕ) : Type 0 where
+  pub head : RightHead newest (recordAfter sheet list)
+  pub accepted : readOutcome (recordAfter sheet list) ≡ Accepted
+  pub same-sheet : sheetInside (recordAfter sheet list) ≡ sheet
+
+abbrev pub WriterIsReadBack : Type 0
+WriterIsReadBack = (sheet list : List ℕ) → writeAnswer sheet list ≡ Accepted → WriterReadBack sheet list
 
 -- Two accepted records with the same version and the same sheet are the same bytes.
 abbrev pub OneRecordASheet : Type 0

@@ -92,8 +92,7 @@ pub fn check(bytes: &[u8]) -> Outcome
     if bytes.len() < 8 {
         return Outcome::Refused(Refusal::BadArchive);
     }
-    let head = head_of(bytes);
-    match head {
+    match head_of(bytes) {
         Head::Wrong => Outcome::Refused(Refusal::BadArchive),
         Head::Right(rules) => check_body(rules, &bytes[8..]),
     }

@@ -9,7 +9,7 @@ use Rattle.sheet.specs.Layout.{UnitRow, Sheet}
 use Rattle.month.specs.Weights.{readUnits, readingSum, readWeight, readWeights}
 use Rattle.month.specs.Steps.{wholeWh, splitBy, heatParts, poolShares, readShares, heat, commonHeat, waterParts, water, commonWater, energies}
 use Rattle.month.specs.Month.{costs, statementOf, monthOf}
-use Rattle.month.specs.Laws.{LimitsMoveRisersAlone}
+use Rattle.month.specs.Laws.{AlikeButForRisers}
 use Rattle.month.proofs.Lists.{decided}
 
 module _ (s : Sheet) (h : s .model ≡ 4 → readingSum s ≡ 0) where
@@ -37,6 +37,6 @@ module _ (s : Sheet) (h : s .model ≡ 4 → readingSum s ≡ 0) where
   same-statement = rw same-energies
 
 -- NO MONTH MOVES BUT THOSE OF MODEL 4 WITH B > 0
-pub limits-move-risers-alone : LimitsMoveRisersAlone
+pub alike-but-for-risers : AlikeButForRisers
 unfolding monthOf
-limits-move-risers-alone s h = rw (same-statement s h)
+alike-but-for-risers s h = rw (same-statement s h)

@@ -1,5 +1,6 @@
--- The laws of a month, by all rules: what holds of every sheet that settles (`settled-laws`, proofs/Laws.antt); which divisions a month makes (`no-other-divisions`,
--- proofs/Divisions.antt); where version 2's rules move nothing (`limits-move-risers-alone`, proofs/Versions.antt); that H rounded up refuses the sheets that the exact H does (`same-refusals`, proofs/Rounding.antt).
+-- The laws of a month: what holds of every sheet that settles, by all rules (`settled-laws`, proofs/Laws.antt); which divisions a month makes, by all rules
+-- (`no-other-divisions`, proofs/Divisions.antt); which months versions 1 and 2 settle alike (`alike-but-for-risers`, proofs/Versions.antt); that H rounded up
+-- refuses the sheets that the exact H does (`same-refusals`, proofs/Rounding.antt).
 use mathlib.Core.Bool.{Bool, false}
 use mathlib.Core.Path.{_≡_}
 use mathlib.Core.List.{List, [], _∷_, _++_, map}
@@ -100,9 +101,9 @@ abbrev pub SettledLaws : Type 0
 SettledLaws = (rules : RuleSet) (bytes : List ℕ) (m : Month) → settledSheet rules bytes ≡ settled m → MonthLaws rules (sheetOf bytes) m
 
 -- ---- 2026-01
--- By versions 1 and 2 a month comes out the same, unless it is of model 4 with B > 0.
-abbrev pub LimitsMoveRisersAlone : Type 0
-LimitsMoveRisersAlone = (s : Sheet) → (s .model ≡ 4 → readingSum s ≡ 0) → monthOf Archive1 s ≡ monthOf Archive2 s
+-- By archive versions 1 and 2 a month comes out the same, unless it is of model 4 with B > 0.
+abbrev pub AlikeButForRisers : Type 0
+AlikeButForRisers = (s : Sheet) → (s .model ≡ 4 → readingSum s ≡ 0) → monthOf Archive1 s ≡ monthOf Archive2 s
 
 -- ---- 8, 9 and 11 by H rounded up and by the exact H
 -- a whole number below or above a fraction, by whole numbers over the fraction's lower

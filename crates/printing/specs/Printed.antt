@@ -38,7 +38,7 @@ abbrev pub textOf : Settled → List ℕ
 textOf (refused r) = refusalLine r
 textOf (settled m) = firstLine m ++ unitLines (m .ids) (m .numbers)
 
--- the text of any bytes, settled by the newest rules (document 02, 2026-01)
+-- the text of any bytes, settled by the newest rules
 unfoldable pub printed : List ℕ → List ℕ
 printed bytes = textOf (settledSheet newest bytes)
 

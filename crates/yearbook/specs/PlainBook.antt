@@ -67,7 +67,7 @@ tell p k sums = record { reply = totals k sums; after = p }
 unfoldable pub notKept : PlainBook → Month → Bool
 notKept p m = not (eqb (m .unitCount) (p .unitCount)) || not (sameList (m .ids) (p .ids))
 
--- Post and replace bring a sheet and settle it by the newest rules (document 02, 2026-01). They are refused by 1 to 12,
+-- Post and replace bring a sheet and settle it by the newest rules. They are refused by 1 to 12,
 -- by 16 when its n or ids aren't the kept ones, and by 17 when its month stands (post) or doesn't (replace); otherwise its month now holds that sheet.
 unfoldable pub brought : PlainBook → (sheet : List ℕ) → (wrongMonth : ℕ → Bool) → Settled → Step
 brought p sheet wrongMonth (Settled.refused r) = refuse p r

@@ -36,7 +36,7 @@ pub record Kept (n : ℕ) (p : PlainBook) (b : List ℕ) : Type 0 where
   pub energies-add : sumTo n (λ u. sumTo 4 (λ j. getD (unitSums p u) j 0)) ≡ sum (map (λ sheet. sheetOf sheet .sharedMeter) (standing p))
   -- and their cent sums exactly to the bills."
   pub cents-add : sumTo n (λ u. sumTo 4 (λ j. getD (unitSums p u) (4 + j) 0)) ≡ sum (map (λ sheet. billCents (sheetOf sheet)) (standing p))
-  -- "Each energy sum is at most 4k Wh from the sum of its unrounded portions in those months", by the step as 2026-01 amends it.
+  -- "Each energy sum is at most 4k Wh from the sum of its unrounded portions in those months", by the newest rules.
   pub energy-near : (u j : ℕ) → u < n → j < 4 → Near (getD (unitSums p u) j 0) (sumᶠ (map (λ sheet. energyPortion newest (sheetOf sheet) u j) (standing p))) (4 * length (standing p))
   -- "Each cent sum is at most k cents from the sum of the bills' parts by those months' settled energies."
   pub cents-near : (u j : ℕ) → u < n → j < 4 → Near (getD (unitSums p u) (4 + j) 0) (sumᶠ (map (λ sheet. billPart newest (sheetOf sheet) u j) (standing p))) (length (standing p))

@@ -1,5 +1,5 @@
--- Computed cases, from the bytes on: the record of case A (document 01, "Cases for the proofs") of each version read, damaged, cut, lengthened and written, and records on which the
--- versions differ (2026-01). One table, one theorem.
+-- Computed cases, from the bytes on: the record of case A (document 01, "Cases for the proofs") of each archive version read, damaged, cut, lengthened and written, and
+-- records that the archive versions settle differently (2026-01). One table, one theorem.
 use mathlib.Core.Path.{_≡_, refl}
 use mathlib.Core.List.{List, [], _∷_, _++_, map}
 use Prim.Native.Nat.{ℕ}
@@ -15,7 +15,7 @@ use Rattle.sheet.specs.Cases.Samples.{zeros, put, unitBytes, joined, sheetBytes
 use Rattle.month.specs.Weights.{allMetered, meteredSum, hasPool, totalArea, unreadWeight, unreadWeights, poolWeight, readingSum, readArea, readSurface, areaWeight, surfaceWeight, readWeight, readWeights, unitsOfClass, litresOfClass1, personsOfClass2, waterWeight}
 use Rattle.month.specs.Steps.{splitBy, inUnitOrder, unitByUnit, hotWater, spaceHeat, heatParts, poolShares, readShares, heat, commonHeat, waterParts, water, commonWater, energies}
 use Rattle.month.specs.Month.{hotWaterWh, spaceHeatWh, zeroWaterDivisor, zeroDivisor, monthRules, billCents, costs, fourAndFour, statementOf, monthOf, settleRules, settledSheet}
-use Rattle.month.specs.Cases.Months.{risersC}
+use Rattle.month.specs.Cases.Months.{risers, risersC}
 use Rattle.archive.specs.Record.{archiveRecord}
 use Rattle.archive.specs.Reader.{headAmong, bodyRules, readRules, readOutcome, startOf, countOf}
 use Rattle.archive.specs.Writer.{writeAnswer, recordAfter}
@@ -41,27 +41,27 @@ statementA =
     ++ ((64 ∷ 245 ∷ 6 ∷ 0 ∷ 160 ∷ 134 ∷ 1 ∷ 0 ∷ zeros 8)
     ++ (208 ∷ 17 ∷ 0 ∷ 0 ∷ 232 ∷ 3 ∷ 0 ∷ 0 ∷ zeros 8)))))
 
-abbrev head : (version : ℕ) → List ℕ
-head version = 72 ∷ 67 ∷ 65 ∷ 0 ∷ version ∷ 0 ∷ 0 ∷ 0 ∷ []
+abbrev head : (archive : ℕ) → List ℕ
+head archive = 72 ∷ 67 ∷ 65 ∷ 0 ∷ archive ∷ 0 ∷ 0 ∷ 0 ∷ []
 
-unfoldable pub recordA : (version : ℕ) → List ℕ
-recordA version = head version ++ (header ++ (unit 11 244 1 100 0 ++ (unit 12 244 1 44 1 ++ (unit 13 232 3 88 2 ++ statementA))))
+unfoldable pub recordA : (archive : ℕ) → List ℕ
+recordA archive = head archive ++ (header ++ (unit 11 244 1 100 0 ++ (unit 12 244 1 44 1 ++ (unit 13 232 3 88 2 ++ statementA))))
 
--- ---- case C by risers, s 50, 50, 100, with the numbers of either version
-byVersion1 : List ℕ
-byVersion1 = 620000 ∷ 50000 ∷ 0 ∷ 0 ∷ 6200 ∷ 500 ∷ 0 ∷ 0
+-- ---- case C by risers, s 50, 50, 100, with the numbers of either archive version
+byArchive1 : List ℕ
+byArchive1 = 620000 ∷ 50000 ∷ 0 ∷ 0 ∷ 6200 ∷ 500 ∷ 0 ∷ 0
     ∷ 60000 ∷ 50000 ∷ 0 ∷ 0 ∷ 600 ∷ 500 ∷ 0 ∷ 0
     ∷ 120000 ∷ 100000 ∷ 0 ∷ 0 ∷ 1200 ∷ 1000 ∷ 0 ∷ 0
     ∷ []
 
-byVersion2 : List ℕ
-byVersion2 = 571429 ∷ 50000 ∷ 0 ∷ 0 ∷ 5714 ∷ 500 ∷ 0 ∷ 0
+byArchive2 : List ℕ
+byArchive2 = 571429 ∷ 50000 ∷ 0 ∷ 0 ∷ 5714 ∷ 500 ∷ 0 ∷ 0
     ∷ 76190 ∷ 50000 ∷ 0 ∷ 0 ∷ 762 ∷ 500 ∷ 0 ∷ 0
     ∷ 152381 ∷ 100000 ∷ 0 ∷ 0 ∷ 1524 ∷ 1000 ∷ 0 ∷ 0
     ∷ []
 
-recordC : (version : ℕ) → (numbers : List ℕ) → List ℕ
-recordC version numbers = head version ++ (risersC 50 1000 ++ inBytes numbers)
+recordC : (archive : ℕ) → (numbers : List ℕ) → List ℕ
+recordC archive numbers = head archive ++ (risersC 50 1000 ++ inBytes numbers)
 
 -- ---- answers: the bytes handed back or written, or number and place with the bytes left
 pub data Answer : Type 0 where
@@ -114,19 +114,19 @@ cases =
     ∷ (reads (put 200 137 (recordA 1)) gives refuses 14 0 [])
     ∷ (reads (put 247 1 (recordA 1)) gives refuses 14 0 [])
     -- each version by its own rules: the other's numbers are 14
-    ∷ (reads (recordC 1 byVersion1) gives accepts (risersC 50 1000))
-    ∷ (reads (recordC 1 byVersion2) gives refuses 14 0 [])
-    ∷ (reads (recordC 2 byVersion1) gives refuses 14 0 [])
-    ∷ (reads (recordC 2 byVersion2) gives accepts (risersC 50 1000))
+    ∷ (reads (recordC 1 byArchive1) gives accepts (risersC 50 1000))
+    ∷ (reads (recordC 1 byArchive2) gives refuses 14 0 [])
+    ∷ (reads (recordC 2 byArchive1) gives refuses 14 0 [])
+    ∷ (reads (recordC 2 byArchive2) gives accepts (risersC 50 1000))
     -- written; 13 on a list of another length; 5 before 13
     ∷ (writes caseA (zeros 248) gives accepts (recordA 2))
-    ∷ (writes (risersC 50 1000) (zeros 248) gives accepts (recordC 2 byVersion2))
+    ∷ (writes (risersC 50 1000) (zeros 248) gives accepts (recordC 2 byArchive2))
     ∷ (writes caseA (7 ∷ zeros 246) gives refuses 13 0 (7 ∷ zeros 246))
     ∷ (writes (take 143 caseA) (7 ∷ []) gives refuses 5 0 (7 ∷ []))
     ∷ []
 
 pub all-cases : map given cases ≡ map expected cases
-unfolding cases statementA recordA risersC byVersion1 byVersion2 recordC reads writes
+unfolding cases statementA recordA risers risersC byArchive1 byArchive2 recordC reads writes
     unitBytes joined sheetBytes inBytes archiveRecord headAmong bodyRules readRules readOutcome writeAnswer recordAfter
     sharesBy all any firstRefusal unitRow rows sheetOf headerTests rowTests rowRules sheetRules
     allMetered meteredSum hasPool totalArea unreadWeight unreadWeights poolWeight readingSum readArea readSurface areaWeight surfaceWeight readWeight readWeights unitsOfClass litresOfClass1 personsOfClass2 waterWeight

@@ -1,5 +1,5 @@
--- Computed cases, from the bytes on: A to L (document 01, "Cases for the proofs"), and small sheets of each model and water source and refusals 8 to 12, worked by hand.
--- docs/REGULATION.md takes its figures from this table.
+-- Computed cases, from the bytes on: A to L (document 01, "Cases for the proofs"), small sheets of each model and water source and refusals 8 to 12, worked by hand, all by the rules
+-- of each archive version, and sheets that the limits of model 4 move (2026-01). docs/REGULATION.md takes its figures from this table.
 use mathlib.Core.Path.{_≡_, refl}
 use mathlib.Core.List.{List, [], _∷_, _++_, map}
 use Prim.Native.Nat.{ℕ, zero, suc}
@@ -259,9 +259,12 @@ casesByHand rules =
     ∷ answer rules (sheet 5 1 0 0 0 30 0 1000 10000 (first 900) (heated 11 0 1000 100 101 ∷ [])) gives refuses 9 0
     ∷ []
 
--- model 4, v 30, s of the first unit as given and 50, 100, with b 1,000, 0, 0: case C by risers
+-- case C by risers: model 4, s of the first unit and 50, 100, with b 1,000, 0, 0
+unfoldable pub risers : (v surface factor : ℕ) → List ℕ
+risers v surface factor = sheet 4 0 v 20 0 30 0 1000000 10000 (first 0) (unitBytes 11 0 0 factor 500 surface 0 1000 0 0 ∷ unitBytes 12 0 0 1000 500 50 0 0 0 0 ∷ unitBytes 13 0 0 1000 1000 100 0 0 0 0 ∷ [])
+
 unfoldable pub risersC : (surface factor : ℕ) → List ℕ
-risersC surface factor = sheet 4 0 30 20 0 30 0 1000000 10000 (first 0) (unitBytes 11 0 0 factor 500 surface 0 1000 0 0 ∷ unitBytes 12 0 0 1000 500 50 0 0 0 0 ∷ unitBytes 13 0 0 1000 1000 100 0 0 0 0 ∷ [])
+risersC surface factor = risers 30 surface factor
 
 -- model 4, v 10, unit 11 without a device: three quarters of 3,200 by its p
 oneUnread : List ℕ
@@ -276,6 +279,12 @@ casesByRules =
     -- The first s 0, S 150: r 10.5, 1.5, 3 millions; the first keeps it, the others are raised to 2 and 4.
     ∷ heats Archive1 (risersC 0 1000) gives numbers (560000 ∷ 80000 ∷ 160000 ∷ [])
     ∷ heats Archive2 (risersC 0 1000) gives numbers (509091 ∷ 96970 ∷ 193939 ∷ [])
+    -- The first s 1, S 151: r 10.6, 1.5, 3 millions; limited 0.3, 2, 4.
+    ∷ heats Archive1 (risersC 1 1000) gives numbers (561590 ∷ 79470 ∷ 158940 ∷ [])
+    ∷ heats Archive2 (risersC 1 1000) gives numbers (38095 ∷ 253968 ∷ 507937 ∷ [])
+    -- v 0: r 20, 0, 0 millions; limited 15, 2, 4.
+    ∷ heats Archive1 (risers 0 50 1000) gives numbers (800000 ∷ 0 ∷ 0 ∷ [])
+    ∷ heats Archive2 (risers 0 50 1000) gives numbers (571429 ∷ 76190 ∷ 152381 ∷ [])
     -- KF 500 of the first, after the limits: 7.75, 1.5, 3 and 7.5, 2, 4.
     ∷ heats Archive1 (risersC 50 500) gives numbers (506123 ∷ 97959 ∷ 195918 ∷ [])
     ∷ heats Archive2 (risersC 50 500) gives numbers (444444 ∷ 118519 ∷ 237037 ∷ [])
@@ -288,7 +297,7 @@ pub cases : RuleSet → List Case
 cases rules = casesAtoL rules ++ (casesByHand rules ++ casesByRules)
 
 pub all-cases : (rules : RuleSet) → map given (cases rules) ≡ map expected (cases rules)
-unfolding cases casesAtoL casesByHand casesByRules risersC oneUnread
+unfolding cases casesAtoL casesByHand casesByRules risers risersC oneUnread
     unitBytes joined sheetBytes inBytes unitsD unitsE lastTheRest partlyMetered waterSheet everyEighth whole answer monthA heats pool hotWaterOf billOf
     sharesBy all any firstRefusal unitRow rows sheetOf headerTests rowTests rowRules sheetRules
     allMetered meteredSum hasPool totalArea unreadWeight unreadWeights poolWeight readingSum readArea readSurface areaWeight surfaceWeight readWeight readWeights unitsOfClass litresOfClass1 personsOfClass2 waterWeight

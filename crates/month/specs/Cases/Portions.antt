@@ -17,7 +17,7 @@ use Rattle.month.specs.Weights.{allMetered, meteredSum, totalArea, unrea
 use Rattle.month.specs.Steps.{splitBy, inUnitOrder, unitByUnit, hotWater, spaceHeat, heatParts, poolShares, readShares, heat, commonHeat, waterParts, water, commonWater, energies}
 use Rattle.month.specs.Month.{billCents}
 use Rattle.month.specs.Portions.{energyPortion, billPart}
-use Rattle.month.specs.Cases.Months.{unitsD, risersC}
+use Rattle.month.specs.Cases.Months.{unitsD, risers, risersC}
 
 -- ---- sheets in bytes, of month 1 and price 10,000
 caseB : List ℕ
@@ -136,7 +136,7 @@ expected : Case → Crossed
 expected (f equals g) = record { product = g .upper *ℤ pos (f .lower); above0 = true }
 
 all-cases : (rules : RuleSet) → map given (cases rules) ≡ map expected (cases rules)
-unfolding cases given expected fromPlace portionsOf centsOf caseB caseC unitsD risersC oneWh coldWater summer byArea
+unfolding cases given expected fromPlace portionsOf centsOf caseB caseC unitsD risers risersC oneWh coldWater summer byArea
     unitBytes joined sheetBytes inBytes sharesBy all unitRow rows sheetOf _+ᶠ_ _-ᶠ_ sumᶠ portion portions
     allMetered meteredSum totalArea unreadWeight unreadWeights poolWeight readingSum readArea readSurface areaWeight surfaceWeight readWeight readWeights unitsOfClass litresOfClass1 personsOfClass2 waterWeight
     splitBy inUnitOrder unitByUnit hotWater spaceHeat heatParts poolShares readShares heat commonHeat waterParts water commonWater energies

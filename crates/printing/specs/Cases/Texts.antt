@@ -14,7 +14,7 @@ use Rattle.sheet.specs.Cases.Samples.{zeros, put, unitBytes, joined, sheetBytes
 use Rattle.month.specs.Weights.{allMetered, meteredSum, hasPool, totalArea, unreadWeight, unreadWeights, poolWeight, readingSum, readArea, readSurface, areaWeight, surfaceWeight, readWeight, readWeights, unitsOfClass, litresOfClass1, personsOfClass2, waterWeight}
 use Rattle.month.specs.Steps.{splitBy, inUnitOrder, unitByUnit, hotWater, spaceHeat, heatParts, poolShares, readShares, heat, commonHeat, waterParts, water, commonWater, energies}
 use Rattle.month.specs.Month.{hotWaterWh, spaceHeatWh, zeroWaterDivisor, zeroDivisor, monthRules, billCents, costs, fourAndFour, statementOf, monthOf, settleRules, settledSheet}
-use Rattle.month.specs.Cases.Months.{risersC}
+use Rattle.month.specs.Cases.Months.{risers, risersC}
 use Rattle.printing.specs.Text.{ascii, digitsUpTo, decimal}
 use Rattle.printing.specs.Printed.{firstLine, unitLines, refusalLine, printed, atFront}
 
@@ -70,7 +70,7 @@ cases =
     ∷ []
 
 all-cases : map given cases ≡ map expected cases
-unfolding cases risersC unitBytes joined sheetBytes inBytes printed firstLine unitLines refusalLine decimal digitsUpTo
+unfolding cases risers risersC unitBytes joined sheetBytes inBytes printed firstLine unitLines refusalLine decimal digitsUpTo
     sharesBy all any firstRefusal unitRow rows sheetOf headerTests rowTests rowRules sheetRules
     allMetered meteredSum hasPool totalArea unreadWeight unreadWeights poolWeight readingSum readArea readSurface areaWeight surfaceWeight readWeight readWeights unitsOfClass litresOfClass1 personsOfClass2 waterWeight
     splitBy inUnitOrder unitByUnit hotWater spaceHeat heatParts poolShares readShares heat commonHeat waterParts water commonWater energies

@@ -14,8 +14,8 @@ head-of-requires c κs = search needs
 enum-told : tie.Need-enum-told
 enum-told c = search needs
 
-enum-known-head : tie.Need-enum-known-head
-enum-known-head c = search needs
+enum-known-rules : tie.Need-enum-known-rules
+enum-known-rules c = search needs
 
 sub-check-body : tie.Need-sub-check-body
 sub-check-body c = search needs
@@ -33,7 +33,7 @@ returns-2 : tie.Need-returns-2
 returns-2 c = wrong-head _ (sym (c .before .before .head-of .ensures) ∙ c .enum-told .given .1)
 
 returns-3 : tie.Need-returns-3
-returns-3 c = by-body (c .before .before .before .before .before .before .before .before .args .bytes .now) _ _ (sym (c .before .before .before .before .before .head-of .ensures) ∙ c .before .before .before .head .given .1) (c .check-body .ensures)
+returns-3 c = by-body (c .before .before .before .before .before .before .before .before .args .bytes .now) _ _ (sym (c .before .before .before .before .before .head-of .ensures) ∙ c .before .before .before .rules .given .1) (c .check-body .ensures)
 
 pub check-spec : {M : Type 1} → statement M
 check-spec =
@@ -42,7 +42,7 @@ check-spec =
     returns
     head-of-requires
     enum-told
-    enum-known-head
+    enum-known-rules
     sub-check-body
     part-check-body-start
     part-check-body-end
