@@ -165,8 +165,8 @@ pub fn has_limits(sheet: &Sheet, unit: &Unit, rules: RuleSet) -> bool {
     }
 }
 
-/// Step 4: r between the limits (article 8 (6), (7)). `base` is p × B, for
-/// model 4 s × B.
+/// Step 4: r between the limits (articles 8 (6), (7) and 9 (6), (7)). `base` is
+/// p × B, for model 4 s × B.
 pub fn limited(r: u64, base: u64) -> u64 {
     r.min(300 * base).max(40 * base)
 }

@@ -5,6 +5,7 @@ use super::header::Header;
 use super::rows::{check_and_sum, Row, Sums};
 use crate::refusal::*;
 use crate::rules::RuleSet;
+use crate::weights::limited;
 
 /// A month that is not refused.
 pub struct Month<'a> {
@@ -203,11 +204,6 @@ impl<'a> Month<'a> {
             }),
         }
     }
-}
-
-#[inline(always)]
-fn limited(r: u64, base: u64) -> u64 {
-    r.min(300 * base).max(40 * base)
 }
 
 /// The four columns of energies, and scratch for a division.

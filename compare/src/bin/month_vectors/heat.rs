@@ -55,8 +55,8 @@ impl Sheets {
         }
     }
 
-    /// Article 8 (6), (7): the first unit's r below, at and above its upper
-    /// limit, then its lower one.
+    /// Articles 8 (6), (7) and 9 (6), (7): the first unit's r below, at and
+    /// above its upper limit, then its lower one.
     fn add_near_limits(&mut self, model: u8) {
         for first in [699, 700, 701] {
             self.add_limit(model, 100, [first, 800 - first, 0]);
