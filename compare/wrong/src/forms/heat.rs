@@ -6,6 +6,9 @@ use crate::sheet::{Sheet, Unit};
 use crate::weights::*;
 use crate::{current, misread, Reading::*};
 
+/// KF 1, in thousandths.
+const FACTOR_1: u64 = 1_000;
+
 /// Step 2's exception.
 pub fn all_metered(sheet: &Sheet) -> Option<bool> {
     match current()? {
@@ -42,7 +45,7 @@ pub fn unread_weight(sheet: &Sheet, unit: &Unit) -> Option<u64> {
         (FaultWithFactor, 2 | 3) => Some(area * factor * 10),
         (FaultAsNoDevice, 2 | 3) | (NextFaultAsNoDevice, 3) => Some(area * factor * unmetered),
         (LaterFaultAsFault, 4) => Some(area * 10_000),
-        (NoDeviceWithoutFactor, 1 | 4) => Some(area * 1_000 * unmetered),
+        (NoDeviceWithoutFactor, 1 | 4) => Some(area * FACTOR_1 * unmetered),
         (NoDeviceByRiser, 1 | 4) if sheet.header.model == 4 => {
             Some(riser_surface(unit) * factor * unmetered)
         }
@@ -110,7 +113,7 @@ pub fn read_weight(sheet: &Sheet, unit: &Unit, sums: ReadSums, rules: RuleSet) -
         r
     };
     match (current()?, model) {
-        (LimitsWithoutFactor, 3) => Some(limit(r * factor, area)),
+        (LimitsWithoutFactor, 3) => Some(limit(r * factor, FACTOR_1 * area)),
         (LimitsAfterDividing | NoLimits, 3) => Some(r * factor),
         (NoUpperLimit, 3) => Some(r.max(40 * area * sums.readings) * factor),
         (NoLowerLimit, 3) => Some(r.min(300 * area * sums.readings) * factor),
@@ -138,7 +141,7 @@ fn riser_weight(sheet: &Sheet, unit: &Unit, sums: ReadSums, r: u64) -> Option<u6
         (RiserLimitsOfZero, false) => 0,
         (RiserLimitsInJanuary, true) if sheet.header.month != 1 => r,
         (RiserLimitsAfterDividing, true) => r,
-        (RiserLimitsWithoutFactor, true) => return Some(limited(r * factor, by_riser)),
+        (RiserLimitsWithoutFactor, true) => return Some(limited(r * factor, FACTOR_1 * by_riser)),
         (RiserZeroWithoutFactor, false) => return Some(r),
         _ => return None,
     };
