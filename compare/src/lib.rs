@@ -17,11 +17,10 @@
 //!   number and place.
 //! - `cargo run --release --bin month_vectors FOLDER`: whole months, vectors as
 //!   before; the lines are those of "Printing".
-//! - `cargo run --release --bin record_vectors FOLDER [STORED]`: archive
-//!   records, vectors as before; a line is number and place or `0 0`, the length
-//!   of the sheet's part, and 1 where that sheet's record is the vector, else 0.
-//!   The first vector is case A's record. Into STORED go records of every
-//!   version that must stay readable, one after the other, without the 1 or 0.
+//! - `cargo run --release --bin record_vectors FOLDER`: archive records, vectors
+//!   as before; a line is number and place or `0 0`, the length of the sheet's
+//!   part, and 1 where that sheet's record is the vector, else 0. The first
+//!   vector is case A's record.
 //! - `cargo run --release --bin book_vectors FOLDER`: "Year book". A vector is
 //!   a call on one list: its kind (8 bits: open, post, replace, withdraw, year)
 //!   and a sheet as before, or a month or place (32 bits); kind 5 writes a

@@ -1,6 +1,6 @@
 //! The stored vectors: their files and the form of a sheet vector.
 
-use std::path::Path;
+use std::path::PathBuf;
 
 /// Writes the files `stdin` and `stdout` into the folder that the program's
 /// first argument names.
@@ -8,13 +8,8 @@ pub fn write_files(stdin: &[u8], stdout: &str) {
     let folder = std::env::args()
         .nth(1)
         .expect("the first argument names a folder");
-    write_files_to(&folder, stdin, stdout);
-}
-
-/// Writes the files into a folder.
-pub fn write_files_to(folder: &str, stdin: &[u8], stdout: &str) {
-    let folder = Path::new(folder);
-    std::fs::create_dir_all(folder).expect("the folder can be made");
+    let folder = PathBuf::from(folder);
+    std::fs::create_dir_all(&folder).expect("the folder can be made");
     std::fs::write(folder.join("stdin"), stdin).expect("stdin can be written");
     std::fs::write(folder.join("stdout"), stdout).expect("stdout can be written");
 }

@@ -1,4 +1,5 @@
-//! Vectors for document 01's "Year book": calls on one list, one after the other.
+//! Vectors for document 01's "Year book", with request 2026-01: calls on one
+//! list, one after the other.
 mod refused;
 
 use compare::book::{self, YearSums, BOOK_LEN};

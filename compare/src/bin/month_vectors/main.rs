@@ -1,4 +1,5 @@
-//! Vectors for document 01's "Steps of a month" and "Printing".
+//! Vectors for document 01's "Steps of a month" and "Printing", with request
+//! 2026-01.
 mod heat;
 mod refused;
 mod water;

@@ -1,15 +1,14 @@
-//! Vectors for document 01's "Archive record".
+//! Vectors for document 01's "Archive record", with request 2026-01.
 mod versions;
 
 use compare::cases::*;
 use compare::damage::damage;
-use compare::record::{head, read_record, record_of};
+use compare::record::{head, read_record, record_of, RecordAnswer};
 use compare::rng::Rng;
 use compare::rules::{RuleSet, NEWEST};
 use compare::samples::{good_sheet, random_ids, random_sheet, random_sheet_of};
 use compare::sheet::{build_sheet, Sheet};
-use compare::vectors::{pack, write_files, write_files_to};
-use versions::stored_records;
+use compare::vectors::{pack, write_files};
 
 /// Bytes of the head, and of the head with the sheet's header.
 const HEAD: usize = 8;
@@ -179,8 +178,8 @@ impl Records {
         }
     }
 
-    /// Random records of every version in turn, good and with one to three
-    /// damages in the sheet or behind it.
+    /// Random records of every archive version in turn, good and with one to
+    /// three damages in the sheet or behind it.
     fn add_random(&mut self, rng: &mut Rng) {
         let mut count = 0;
         while count < 60 {
@@ -203,17 +202,18 @@ impl Records {
     }
 }
 
-/// Number, place and the length of the sheet's part.
-fn read_line(record: &[u8]) -> String {
-    let answer = read_record(record);
-    format!("{} {} {}", answer.number, answer.place, answer.part_length)
-}
-
-/// 1 where the sheet's record is this one, else 0.
-fn written_anew(record: &[u8]) -> u8 {
-    let answer = read_record(record);
-    let part = &record[answer.part_start..][..answer.part_length];
-    u8::from(record_of(part, NEWEST).is_ok_and(|written| written == record))
+/// Number, place, the length of the sheet's part, and 1 where that sheet's
+/// record is this one, else 0.
+fn line(record: &[u8]) -> String {
+    let RecordAnswer {
+        number,
+        place,
+        part_start,
+        part_length,
+    } = read_record(record);
+    let part = &record[part_start..][..part_length];
+    let written = record_of(part, NEWEST).is_ok_and(|written| written == record);
+    format!("{number} {place} {part_length} {}\n", u8::from(written))
 }
 
 fn main() {
@@ -233,16 +233,6 @@ fn main() {
     records.add_large(&mut rng);
     records.add_random(&mut rng);
 
-    let line = |record: &Vec<u8>| format!("{} {}\n", read_line(record), written_anew(record));
-    let stdout: String = records.0.iter().map(line).collect();
+    let stdout: String = records.0.iter().map(|record| line(record)).collect();
     write_files(&pack(&records.0), &stdout);
-
-    if let Some(folder) = std::env::args().nth(2) {
-        let stored = stored_records();
-        let stdout: String = stored
-            .iter()
-            .map(|record| read_line(record) + "\n")
-            .collect();
-        write_files_to(&folder, &stored.concat(), &stdout);
-    }
 }

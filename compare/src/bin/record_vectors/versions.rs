@@ -1,29 +1,18 @@
-//! Request 2026-01: records of both archive versions, and the stored ones.
+//! Request 2026-01: records of both archive versions.
 
 use super::*;
 use compare::damage::put;
 
-/// The record with another version in its head.
+/// The record with another archive version in its head.
 fn with_version(record: &[u8], version: u16) -> Vec<u8> {
     let mut record = record.to_vec();
     put(&mut record, (4, 2), version.into());
     record
 }
 
-/// Records that every version must read, of 248 bytes each: case A's, and of a
-/// sheet whose numbers differ by version one of each.
-pub fn stored_records() -> [Vec<u8>; 3] {
-    let risers = case_c_by_risers([50, 50, 100]);
-    [
-        record(&case_a(), RuleSet::Version1),
-        record(&risers, RuleSet::Version1),
-        record(&risers, RuleSet::Version2),
-    ]
-}
-
 impl Records {
-    /// The archive version and the two zeros behind it, on a sheet that every
-    /// version settles alike.
+    /// The archive version and the two zeros behind it, on a sheet that all rules
+    /// settle alike.
     pub fn add_versions(&mut self) {
         let good = record(&good_sheet(4, 1), NEWEST);
         for version in [0, 1, 2, 3, 256, 257, 258, 512, 65_535] {
@@ -35,8 +24,8 @@ impl Records {
         }
     }
 
-    /// Numbers of each version under every head: on sheets whose numbers
-    /// differ by version, then on case C.
+    /// Numbers of each archive version under every head: on sheets whose
+    /// numbers differ by it, then on case C.
     pub fn add_version_pairs(&mut self) {
         for sheet in [
             case_c_by_risers([50, 50, 100]),
@@ -52,7 +41,7 @@ impl Records {
         }
     }
 
-    /// Damage to records of each version: refusals 1 to 7, and 14 by the
+    /// Damage to records of each archive version: refusals 1 to 7, and 14 by the
     /// statement.
     pub fn add_damaged_versions(&mut self) {
         for rules in RuleSet::ALL {
@@ -61,7 +50,7 @@ impl Records {
             for length in [4, 6, 7, 8, 55, 56, 152] {
                 self.add(good[..length].to_vec());
             }
-            // Mark, version, month, v, KF of row 0, id of row 1.
+            // The sheet's mark and version, month, v, KF of row 0, id of row 1.
             for place in [8, 12, 14, 19, 63, 88] {
                 self.add_changed(&good, place, 0x40);
             }
