@@ -8,7 +8,7 @@ use crate::sheet::{check, read_sheet, HEADER_BYTES, RECORD_UNIT_BYTES, ROW_BYTES
 
 pub const HEAD_BYTES: usize = 8;
 
-/// Mark, zero, the rules' version, two zeros.
+/// Mark, zero, the rules' archive version, two zeros.
 pub fn head(rules: RuleSet) -> [u8; HEAD_BYTES] {
     let [low, high] = rules.archive_version().to_le_bytes();
     [b'H', b'C', b'A', 0, low, high, 0, 0]

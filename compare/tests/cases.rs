@@ -1,5 +1,5 @@
-//! Document 01's cases A to L by every version's rules, the printed output of A,
-//! and case C as model 4 (request 2026-01).
+//! Document 01's cases A to L by every archive version's rules, the printed
+//! output of A, and case C as model 4 (request 2026-01).
 
 use compare::apportion::apportion;
 use compare::book::{self, BOOK_LEN};
@@ -9,7 +9,7 @@ use compare::rules::{RuleSet, NEWEST};
 use compare::settle::{hot_water_wh, settle, settle_bytes, settle_sheet, Outcome};
 use compare::sheet::{build_sheet, Sheet};
 
-/// What a case settles to, by every version's rules alike.
+/// What a case settles to, by every archive version's rules alike.
 fn settled(sheet: &Sheet) -> Outcome {
     let outcome = settle_bytes(&build_sheet(sheet)).expect("the case settles");
     for rules in RuleSet::ALL {
@@ -110,24 +110,33 @@ fn cases_k_and_l() {
 
 #[test]
 fn case_c_as_model_4() {
-    let sheet = case_c_by_risers([50, 50, 100]);
-    assert_eq!(
-        heats_by(RuleSet::Version1, &sheet),
-        [620_000, 60_000, 120_000]
-    );
-    assert_eq!(
-        heats_by(RuleSet::Version2, &sheet),
-        [571_429, 76_190, 152_381]
-    );
-    let sheet = case_c_by_risers([0, 50, 100]);
-    assert_eq!(
-        heats_by(RuleSet::Version1, &sheet),
-        [560_000, 80_000, 160_000]
-    );
-    assert_eq!(
-        heats_by(RuleSet::Version2, &sheet),
-        [509_091, 96_970, 193_939]
-    );
+    let mut by_readings_alone = case_c_by_risers([50, 50, 100]);
+    by_readings_alone.header.base_percent = 0;
+    for (sheet, by_archive_1, by_archive_2) in [
+        (
+            case_c_by_risers([50, 50, 100]),
+            [620_000, 60_000, 120_000],
+            [571_429, 76_190, 152_381],
+        ),
+        (
+            case_c_by_risers([0, 50, 100]),
+            [560_000, 80_000, 160_000],
+            [509_091, 96_970, 193_939],
+        ),
+        (
+            case_c_by_risers([1, 50, 100]),
+            [561_590, 79_470, 158_940],
+            [38_095, 253_968, 507_937],
+        ),
+        (
+            by_readings_alone,
+            [800_000, 0, 0],
+            [571_429, 76_190, 152_381],
+        ),
+    ] {
+        assert_eq!(heats_by(RuleSet::Archive1, &sheet), by_archive_1);
+        assert_eq!(heats_by(RuleSet::Archive2, &sheet), by_archive_2);
+    }
 }
 
 #[test]
@@ -136,7 +145,7 @@ fn limits_of_model_4_stand_before_the_location_factor() {
     let mut sheet = case_c_by_risers([50, 50, 100]);
     sheet.units[0].location_factor = 500;
     assert_eq!(
-        heats_by(RuleSet::Version2, &sheet),
+        heats_by(RuleSet::Archive2, &sheet),
         [444_444, 118_519, 237_037]
     );
 }
@@ -151,7 +160,7 @@ fn model_4_without_readings_has_no_limits() {
 
 #[test]
 fn entry_points_go_by_the_newest_rules() {
-    assert_eq!(NEWEST, RuleSet::Version2);
+    assert_eq!(NEWEST, RuleSet::Archive2);
     let sheet = case_c_by_risers([50, 50, 100]);
     let newest = settle_sheet(&sheet, NEWEST).unwrap();
     let bytes = build_sheet(&sheet);

@@ -63,7 +63,7 @@ fn records() {
         let expected = record::write_record(&sheet, &mut plain);
         assert_eq!(fast::record::write(&sheet, &mut other), expected);
         assert_eq!(other, plain);
-        if let (0, Ok(record)) = (rng.below(3), record::record_of(&sheet, RuleSet::Version1)) {
+        if let (0, Ok(record)) = (rng.below(3), record::record_of(&sheet, RuleSet::Archive1)) {
             plain = record;
         }
         if rng.once_in(2) {

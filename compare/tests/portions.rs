@@ -1,4 +1,5 @@
-//! The statement's promises on random accepted sheets, by every version's rules.
+//! The statement's promises on random accepted sheets, by every archive
+//! version's rules.
 
 use compare::cases::{case_a, case_c_by_risers};
 use compare::portions::{check_statement, portions, Fraction};
@@ -58,9 +59,9 @@ fn wrong_statements_are_found() {
 }
 
 #[test]
-fn another_versions_statement_is_not_near() {
+fn another_archive_versions_statement_is_not_near() {
     let sheet = case_c_by_risers([50, 50, 100]);
-    let [one, two] = [RuleSet::Version1, RuleSet::Version2];
+    let [one, two] = [RuleSet::Archive1, RuleSet::Archive2];
     for (of, by) in [(one, two), (two, one)] {
         let outcome = settle_sheet(&sheet, of).unwrap();
         assert_eq!(check_statement(&sheet, &outcome, of), Ok(()));

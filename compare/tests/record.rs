@@ -1,8 +1,8 @@
-//! "Archive record": writing, reading back, damage, versions.
+//! "Archive record": writing, reading back, damage, archive versions.
 
 use compare::cases::*;
 use compare::damage::{damage, put};
-use compare::record::{head, read_record, write_record, RecordAnswer};
+use compare::record::{head, read_record, record_of, write_record, RecordAnswer};
 use compare::refusal::Refusal;
 use compare::rng::Rng;
 use compare::rules::{RuleSet, NEWEST};
@@ -28,15 +28,17 @@ fn accepted(unit_count: usize) -> RecordAnswer {
     }
 }
 
-fn record_of(sheet: &[u8], unit_count: usize) -> Vec<u8> {
+/// The record that the writer writes.
+fn written(sheet: &[u8], unit_count: usize) -> Vec<u8> {
     let mut record = vec![0xaa; 56 + 64 * unit_count];
     write_record(sheet, &mut record).expect("the sheet settles");
     record
 }
 
-/// A sheet's record with the numbers of one version and the head of another.
+/// A sheet's record with the numbers of one archive version and the head of
+/// another.
 fn mixed(sheet: &Sheet, numbers: RuleSet, named: RuleSet) -> Vec<u8> {
-    let record = compare::record::record_of(&build_sheet(sheet), numbers);
+    let record = record_of(&build_sheet(sheet), numbers);
     let mut record = record.expect("the sheet settles");
     record[..8].copy_from_slice(&head(named));
     record
@@ -45,7 +47,7 @@ fn mixed(sheet: &Sheet, numbers: RuleSet, named: RuleSet) -> Vec<u8> {
 #[test]
 fn case_a_comes_back() {
     let sheet = build_sheet(&case_a());
-    let record = record_of(&sheet, 3);
+    let record = written(&sheet, 3);
     assert_eq!(record.len(), 248);
     assert_eq!(record[..8], [72, 67, 65, 0, 2, 0, 0, 0]);
     assert_eq!(record[8..152], sheet);
@@ -55,7 +57,7 @@ fn case_a_comes_back() {
 
 #[test]
 fn a_changed_head_or_statement_is_refused() {
-    let record = record_of(&build_sheet(&case_a()), 3);
+    let record = written(&build_sheet(&case_a()), 3);
     for place in (0..8).chain(152..248) {
         let mut other = record.clone();
         other[place] ^= 1;
@@ -65,7 +67,7 @@ fn a_changed_head_or_statement_is_refused() {
 
 #[test]
 fn short_and_long_records() {
-    let record = record_of(&build_sheet(&case_a()), 3);
+    let record = written(&build_sheet(&case_a()), 3);
     let cut = |length: usize| read_record(&record[..length]);
     assert_eq!(cut(0), refused(14, 0));
     assert_eq!(cut(7), refused(14, 0));
@@ -101,7 +103,7 @@ fn random_records() {
         let Ok(outcome) = settle_bytes(&bytes) else {
             continue;
         };
-        let mut record = record_of(&bytes, outcome.unit_count);
+        let mut record = written(&bytes, outcome.unit_count);
         let answer = read_record(&record);
         assert_eq!((answer.number, answer.part_start), (0, 8));
         assert_eq!(record[8..8 + answer.part_length], bytes);
@@ -116,7 +118,7 @@ fn random_records() {
         } else {
             assert_eq!(
                 record,
-                record_of(&record[8..8 + answer.part_length], outcome.unit_count)
+                written(&record[8..8 + answer.part_length], outcome.unit_count)
             );
         }
     }
@@ -125,7 +127,7 @@ fn random_records() {
 /// docs/FORMAT.md: a change that leaves the settlement as it is isn't found.
 #[test]
 fn single_bits_of_case_a_that_are_not_found() {
-    let record = record_of(&build_sheet(&case_a()), 3);
+    let record = written(&build_sheet(&case_a()), 3);
     let mut passed = Vec::new();
     for bit in 0..8 * record.len() {
         let mut changed = record.clone();
@@ -143,7 +145,7 @@ fn single_bits_of_case_a_that_are_not_found() {
 }
 
 #[test]
-fn numbers_are_those_of_the_version_that_the_head_names() {
+fn numbers_are_those_of_the_archive_version_that_the_head_names() {
     for risers in [[50, 50, 100], [0, 50, 100]] {
         let sheet = case_c_by_risers(risers);
         for numbers in RuleSet::ALL {
@@ -157,8 +159,8 @@ fn numbers_are_those_of_the_version_that_the_head_names() {
                 assert_eq!(answer, expected, "{numbers:?} under {named:?}");
             }
         }
-        let written = record_of(&build_sheet(&sheet), 3);
-        assert_eq!(written, mixed(&sheet, NEWEST, NEWEST));
+        let newest = mixed(&sheet, NEWEST, NEWEST);
+        assert_eq!(written(&build_sheet(&sheet), 3), newest);
     }
 }
 
@@ -175,8 +177,8 @@ fn numbers_that_do_not_differ_pass_under_both_heads() {
 }
 
 #[test]
-fn other_versions_are_wrong_heads() {
-    let mut record = record_of(&build_sheet(&case_a()), 3);
+fn other_archive_versions_are_wrong_heads() {
+    let mut record = written(&build_sheet(&case_a()), 3);
     for version in [0, 3, 4, 256, 257, 258, 512, 513, 65_535] {
         put(&mut record, (4, 2), version);
         assert_eq!(read_record(&record), refused(14, 0), "version {version}");
@@ -186,7 +188,7 @@ fn other_versions_are_wrong_heads() {
 }
 
 #[test]
-fn sheets_are_refused_alike_in_both_versions() {
+fn sheets_are_refused_alike_in_both_archive_versions() {
     let no_risers = case_c_by_risers([0, 0, 0]);
     let mut bad_row = case_c_by_risers([0, 50, 100]);
     bad_row.units[1].location_factor = 0;
@@ -203,15 +205,16 @@ fn sheets_are_refused_alike_in_both_versions() {
     }
 }
 
-/// crates/stored_record: records that every version must read.
+/// crates/stored_record: records that must be read for good. That file is only
+/// ever added to.
 #[test]
 fn stored_records_are_read() {
     let stored = include_bytes!("../../crates/stored_record/stdin");
     let risers = case_c_by_risers([50, 50, 100]);
     let expected = [
-        mixed(&case_a(), RuleSet::Version1, RuleSet::Version1),
-        mixed(&risers, RuleSet::Version1, RuleSet::Version1),
-        mixed(&risers, RuleSet::Version2, RuleSet::Version2),
+        mixed(&case_a(), RuleSet::Archive1, RuleSet::Archive1),
+        mixed(&risers, RuleSet::Archive1, RuleSet::Archive1),
+        mixed(&risers, RuleSet::Archive2, RuleSet::Archive2),
     ];
     assert_eq!(stored[..], expected.concat());
     for record in stored.chunks(248) {

@@ -37,8 +37,8 @@ pub fn list_len(rng: &mut Rng, right: usize) -> usize {
     }
 }
 
-/// A record for the reader: one that was written, the sheet's of some version,
-/// or the sheet's with any statement; then perhaps damaged.
+/// A record for the reader: one that was written, the sheet's of some archive
+/// version, or the sheet's with any statement; then perhaps damaged.
 pub fn record_to_read(rng: &mut Rng, sheet: &[u8], written: Vec<u8>) -> Vec<u8> {
     let settled = named_rules(&written).is_some();
     let mut record = match rng.below(8) {
@@ -63,11 +63,11 @@ pub fn record_to_read(rng: &mut Rng, sheet: &[u8], written: Vec<u8>) -> Vec<u8> 
     record
 }
 
-/// Versions that no head has; two of them have the lower byte of one that has.
+/// Archive versions of wrong heads; two have the lower byte of a right one.
 const WRONG_VERSIONS: [u64; 6] = [0, 3, 256, 257, 258, 512];
 
-/// A settled sheet's record with the numbers of some version, under the head of
-/// some version or under a wrong one.
+/// A settled sheet's record with the numbers of some archive version, under the
+/// head of some archive version or under a wrong one.
 fn record_of_version(rng: &mut Rng, sheet: &[u8]) -> Vec<u8> {
     let mut record = record_of(sheet, random_rules(rng)).expect("the sheet settles");
     match rng.below(6) {

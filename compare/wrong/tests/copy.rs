@@ -49,7 +49,7 @@ fn sheets_texts_and_records() {
             compare::print::print_into(&sheet, &mut plain_text),
         );
         assert_eq!(text, plain_text);
-        if let (0, Ok(record)) = (rng.below(2), record_of(&sheet, RuleSet::Version1)) {
+        if let (0, Ok(record)) = (rng.below(2), record_of(&sheet, RuleSet::Archive1)) {
             plain = record;
         }
         plain[4] ^= [0, 0, 3][rng.below(3) as usize];

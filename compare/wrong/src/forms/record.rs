@@ -25,10 +25,10 @@ pub fn named_rules(record: &[u8]) -> Option<Option<RuleSet>> {
 
 /// The record that the writer writes.
 pub fn written(sheet: &[u8], mut record: Vec<u8>) -> Vec<u8> {
-    let old = || record_of(sheet, RuleSet::Version1).expect("the sheet settles");
+    let old = || record_of(sheet, RuleSet::Archive1).expect("the sheet settles");
     match current() {
-        Some(WrittenHead1) => record[..HEAD_BYTES].copy_from_slice(&head(RuleSet::Version1)),
-        Some(WrittenHead1Mostly) if sheet[7] != 4 => return old(),
+        Some(WrittenHead1) => record[..HEAD_BYTES].copy_from_slice(&head(RuleSet::Archive1)),
+        Some(WrittenAsVersion1UnlessModel4) if sheet[7] != 4 => return old(),
         Some(WrittenByVersion1) => record[HEAD_BYTES..].copy_from_slice(&old()[HEAD_BYTES..]),
         Some(WrittenAsVersion1) => return old(),
         _ => {}
