@@ -91,6 +91,8 @@ record Said : Type 0 where
   -- the second unit's first energy by 750 + 37.5, its first cents by 7.5 + 0.74
   energy : Near 787 (1260000000000 over 1600000000) 8
   cent : Near 8 (412000 over 50000) 2
+  -- a month of model 4, its first unit at the upper limit, 4,200 × 300 / 420 Wh
+  by-risers : Near 3000 (504000000000000000000 over 168000000000000000) 4
   -- the lent list of the 19th call, withdraw 1, and of the last, where january stands again
   cleared : Left (afterAll start (take 18 calls)) (afterAll start (take 19 calls)) (numbers 0 0 0 []) ofMonth1
   written : Left (afterAll start (take 23 calls)) last (numbers 1 1000 10 januaryNumbers) ofMonth1
@@ -117,6 +119,7 @@ at-run-said =
       cents = k .cents-add;
       energy = k .energy-near 1 0 (omega arith) (omega arith);
       cent = k .cents-near 1 0 (omega arith) (omega arith);
+      by-risers = at-calls (post (byRisers 3 4200) ∷ []) .kept .energy-near 0 0 (omega arith) (omega arith);
       cleared = lent-lists .called .1 .0 .0 _ (ap (λ (l : List Reply). getD l 18 accepted) (at-run .same-replies));
       written = lent-lists .called .0 .0 _ (ap (λ (l : List Reply). getD l 23 accepted) (at-run .same-replies));
       each-accepted = at-calls six .same-replies;
