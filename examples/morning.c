@@ -80,7 +80,8 @@ static int make_record(const struct bytes *sheet, struct bytes *record)
                HEATCOST_ACCEPTED);
 }
 
-/* Settles the sheet of an accepted record again and compares with the record's statement. */
+/* Settles the sheet of an accepted record again and compares with the record's statement: the same for a record of the
+ * newest version; an older one went by its own rules. */
 static int settle_again(const struct bytes *record, const uint8_t *sheet, size_t sheet_len)
 {
     uint32_t statement[MAX_STATEMENT];
