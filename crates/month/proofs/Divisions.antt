@@ -16,10 +16,10 @@ use Rattle.sheet.specs.declared.rule_set.RuleSet.{RuleSet}
 use Rattle.sheet.specs.Layout.{UnitRow, Sheet}
 use Rattle.sheet.specs.Tests.{Each}
 use Rattle.month.specs.Weights.{unreadUnits, allMetered, unreadWeights, poolWeight, readWeights, waterWeight, commonWaterWeight}
-use Rattle.month.specs.Steps.{sharesUnder, dividingBy, wholeWh, splitBy, inUnitOrder, unitByUnit, hotWater, spaceHeat, heatParts, poolShares, readShares, heat, commonHeat, waterParts, water, commonWater, energies}
+use Rattle.month.specs.Steps.{Method, sharesUnder, dividingBy, wholeWh, splitBy, inUnitOrder, unitByUnit, hotWater, spaceHeat, heatParts, poolShares, readShares, heat, commonHeat, waterParts, water, commonWater, energies}
 use Rattle.month.specs.Month.{hotWaterWh, spaceHeatWh, billCents, costs}
 use Rattle.month.specs.Inner.Accepted.{AcceptedSheet}
-use Rattle.month.specs.Laws.{_by_, unitsHeatDivisions, heatDivisions, divisions, Divisible, Method, DoesAsShares, NoOtherDivisions}
+use Rattle.month.specs.Laws.{_by_, unitsHeatDivisions, heatDivisions, divisions, Divisible, DoesAsShares, NoOtherDivisions}
 use Rattle.month.proofs.Lists.{decided, sum-two, each-append, each-parts}
 use Rattle.month.proofs.Accepted.{load-positive, area-positive, pool-positive, read-positive, water-positive, common-water-positive}
 

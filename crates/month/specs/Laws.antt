@@ -15,7 +15,7 @@ use Rattle.sheet.specs.declared.rule_set.RuleSet.the-variants.{Archive1, Archiv
 use Rattle.sheet.specs.Layout.{Sheet, sheetOf}
 use Rattle.month.specs.Fraction.{Fraction, Near}
 use Rattle.month.specs.Weights.{unreadUnits, allMetered, meteredSum, unreadWeights, poolWeight, readingSum, readWeights, waterWeight, commonWaterWeight}
-use Rattle.month.specs.Steps.{sharesUnder, dividingBy, wholeWh, unrounded, item, hotWater, spaceHeat, heatParts, poolShares, waterParts, energies}
+use Rattle.month.specs.Steps.{Method, sharesUnder, dividingBy, wholeWh, unrounded, item, hotWater, spaceHeat, heatParts, poolShares, waterParts, energies}
 use Rattle.month.specs.Month.{hotWaterWh, spaceHeatWh, billCents, costs, Month, monthOf, settled, settledSheet}
 use Rattle.month.specs.Portions.{energyPortion, billPart}
 
@@ -58,9 +58,6 @@ abbrev pub Divisible : Division → Type 0
 Divisible d = sum (d .weights) ≡ 0 → d .total ≡ 0
 
 -- The month of any sheet makes these divisions and no others: by a method that does as `sharesUnder` on them it comes out the same.
-abbrev pub Method : Type 0
-Method = RuleSet → ℕ → List ℕ → List ℕ
-
 abbrev pub DoesAsShares : RuleSet → Method → Division → Type 0
 DoesAsShares rules divide d = divide rules (d .total) (d .weights) ≡ sharesUnder rules (d .total) (d .weights)
 

@@ -18,12 +18,16 @@ pub record Rounding : Type 1 where
   pub less : Energy → Energy → Energy  -- a difference
   pub divided : RuleSet → Energy → List ℕ → List Energy  -- divided by weights, by the rules
 
--- A whole number divided ("Dividing"): alike by all rules.
-abbrev pub sharesUnder : RuleSet → ℕ → List ℕ → List ℕ
+-- How a whole number is divided by weights, by the rules.
+abbrev pub Method : Type 0
+Method = RuleSet → ℕ → List ℕ → List ℕ
+
+-- "Dividing" (document 01): alike by all rules.
+abbrev pub sharesUnder : Method
 sharesUnder rules = shares
 
 -- The statement's: a quotient is rounded up (own), a division goes by the largest remainders.
-abbrev pub dividingBy : (RuleSet → ℕ → List ℕ → List ℕ) → Rounding
+abbrev pub dividingBy : Method → Rounding
 dividingBy divide = record { Energy = ℕ; wh = λ n. n; quotient = λ a b. (a + (b - 1)) / b; less = _-_; divided = divide }
 
 abbrev pub wholeWh : Rounding
