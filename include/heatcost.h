@@ -138,7 +138,8 @@ uint32_t heatcost_settle(const uint8_t *sheet, size_t sheet_len, uint32_t *state
  * was. So NULL and 0 ask for the length alone. */
 uint64_t heatcost_print(const uint8_t *sheet, size_t sheet_len, uint8_t *text, size_t text_len);
 
-/* Writes the archive record of a sheet, of version 2. Refusals 1 to 12, then 13 unless record_len is HEATCOST_RECORD_LEN(n). */
+/* Writes the archive record of a sheet, of version 2. Refusals 1 to 12, then 13 unless record_len is
+ * HEATCOST_RECORD_LEN(n). */
 uint32_t heatcost_write_record(const uint8_t *sheet, size_t sheet_len, uint8_t *record, size_t record_len);
 
 /* Checks a record of version 1 or 2: 14 for its head, the sheet's refusals 1 to 12, 14 for a statement that isn't the
