@@ -2,4 +2,5 @@
 pub mod Metered
 pub mod By
 pub mod Ready
+pub mod Limits
 pub mod Totals

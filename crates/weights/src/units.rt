@@ -1,12 +1,14 @@
 // The weight of a unit in each division (document 01, steps 3, 4 and 6).
 ghost use mathlib.Core.Path.{_≡_};
-ghost use mathlib.Core.Bool.{_||_};
+ghost use mathlib.Core.Bool.{_&&_, _||_};
 ghost use Prim.Native.Nat.{_+_, _*_, _-_, _≤_};
-ghost use lib.Dec.{eqb};
+ghost use lib.Dec.{ltb, eqb};
 ghost use Rattle.sheet.specs.Tests.{if_then_else_};
+ghost use Rattle.sheet.specs.RuleSets.{limitsRisers};
 ghost use Rattle.sheet.specs.Layout.{sheetOf};
 ghost use Rattle.sheet.specs.Inner.Fields.{unitOf};
-ghost use Rattle.month.specs.Weights.{rBy, limited, riserLimited, areaWeight, surfaceWeight, readWeight, unreadWeight, waterWeight, commonWaterWeight};
+ghost use Rattle.month.specs.Weights.{limited, areaWeight, surfaceWeight, readWeight, unreadWeight, waterWeight, commonWaterWeight};
+ghost use Rattle.weights.specs.Inner.Limits.{weightBy};
 ghost use Rattle.weights.specs.Inner.Ready.{RowReady, Ready};
 use crate::basis::Basis;
 use crate::fields::field;
@@ -47,21 +49,26 @@ fn mixed(v: u64, x: u64, a: u64, y: u64, b: u64) -> u64
     (100 - v) * x * a + v * y * b
 }
 
-// Articles 8 (6), (7) and 9 (6), (7).
-fn limit(base: u64, r: u64) -> u64
+// Articles 8 (6), (7) and 9 (6), (7), where there are limits.
+fn limit_if(limits: bool, base: u64, r: u64) -> u64
     requires { ⌜ (base ≤ 80000000000) × (r ≤ 16000000000000) ⌝ }
-    ensures { λ o. ⌜ (o ≡ limited base r) × (o ≤ 24000000000000) ⌝ }
+    ensures { λ o. ⌜ (o ≡ (if limits then limited base r else r)) × (o ≤ 24000000000000) ⌝ }
 {
+    if !limits {
+        return r;
+    }
     larger(40 * base, smaller(300 * base, r))
 }
 
-// Step 4, models 3 and 4: r by the unit's own p or s, and the sum of it over the read units.
-fn r_by(s: &[u8], i: usize, t: Totals, own: u64, whole: u64) -> u64
+// Step 4, models 3 and 4: r by the unit's own p or s and the sum of it over the read units, limited or not, then × KF.
+fn weight_by(s: &[u8], i: usize, t: Totals, own: u64, whole: u64, limits: bool) -> u64
     requires { ⌜ RowReady (now s) i × Ready (now s) t × (sheetOf (now s) .model ≤ 4) × (own ≤ 10000) × (whole ≤ 1600000) ⌝ }
-    ensures { λ r. ⌜ (r ≡ rBy (sheetOf (now (s .entry))) (unitOf (sheetOf (now (s .entry))) i) own whole) × (r ≤ 16000000000000) ⌝ }
+    ensures { λ r. ⌜ r ≡ weightBy limits (sheetOf (now (s .entry))) (unitOf (sheetOf (now (s .entry))) i) own whole ⌝ }
 {
     let v = head(s, header::BASE_PERCENT);
-    mixed(v, field(s, i, rows::READING), whole, own, t.readings)
+    let k = field(s, i, rows::LOCATION_FACTOR);
+    let r = mixed(v, field(s, i, rows::READING), whole, own, t.readings);
+    limit_if(limits, own * t.readings, r) * k
 }
 
 // Step 4, model 3.
@@ -69,24 +76,17 @@ fn area_weight(s: &[u8], i: usize, t: Totals) -> u64
     requires { ⌜ RowReady (now s) i × Ready (now s) t × (sheetOf (now s) .model ≤ 4) ⌝ }
     ensures { λ r. ⌜ r ≡ areaWeight (sheetOf (now (s .entry))) (unitOf (sheetOf (now (s .entry))) i) ⌝ }
 {
-    let p = field(s, i, rows::HEATED_AREA);
-    let k = field(s, i, rows::LOCATION_FACTOR);
-    let r = r_by(s, i, t, p, t.readarea);
-    limit(p * t.readings, r) * k
+    weight_by(s, i, t, field(s, i, rows::HEATED_AREA), t.readarea, true)
 }
 
-// Step 4, model 4 (2026-01): r, limited where the rules say so; without riser surface it stays.
-fn limit_risers(rules: RuleSet, surface: u64, base: u64, r: u64) -> u64
-    requires { ⌜ (base ≤ 80000000000) × (r ≤ 16000000000000) ⌝ }
-    ensures { λ o. ⌜ (o ≡ riserLimited rules surface base r) × (o ≤ 24000000000000) ⌝ }
+// Step 4, model 4 (2026-01): where the rules limit risers and the unit has some.
+fn riser_limits(rules: RuleSet, surface: u64) -> bool
+    ensures { λ r. ⌜ r ≡ (limitsRisers rules && ltb 0 surface) ⌝ }
 {
     if !limits_risers(rules) {
-        return r;
+        return false;
     }
-    if surface == 0 {
-        return r;
-    }
-    limit(base, r)
+    0 < surface
 }
 
 // Step 4, model 4.
@@ -96,9 +96,8 @@ fn surface_weight(s: &[u8], i: usize, basis: Basis) -> u64
 {
     let rules = basis.rules;
     let surface = field(s, i, rows::RISER_SURFACE);
-    let k = field(s, i, rows::LOCATION_FACTOR);
-    let r = r_by(s, i, basis.totals, surface, basis.totals.surface);
-    limit_risers(rules, surface, surface * basis.totals.readings, r) * k
+    let limits = riser_limits(rules, surface);
+    weight_by(s, i, basis.totals, surface, basis.totals.surface, limits)
 }
 
 // Step 4 without any reading: a field × KF.
