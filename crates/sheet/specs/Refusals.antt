@@ -5,7 +5,7 @@ use Prim.Native.Nat.{ℕ}
 use Rattle.sheet.specs.declared.refusal.Refusal.{Refusal}
 use Rattle.sheet.specs.declared.refusal.Refusal.the-variants.{TooShort, BadMagic, UnsupportedVersion, HeaderField, WrongLength, RowField, IdOrder}
 use Rattle.sheet.specs.declared.refusal.Refusal.the-variants.{HotWaterExceedsMeter, ZeroDivisor, NoReadings, MetersExceedHeat, UnmeteredExceedsHeat}
-use Rattle.sheet.specs.declared.refusal.Refusal.the-variants.{BufferLength, BadArchive, BadYearBook, OtherBuilding, MonthState, NoSuchUnit}
+use Rattle.sheet.specs.declared.refusal.Refusal.the-variants.{BufferLength, BadArchive, BadYearBook, OtherBuilding, MonthState, NoSuchUnit, BadYearSums}
 use Rattle.sheet.specs.declared.refusal.Outcome.{Outcome}
 use Rattle.sheet.specs.declared.refusal.Outcome.the-variants.{Accepted, Refused}
 
@@ -29,6 +29,7 @@ numberOf BadYearBook = 15  -- book
 numberOf OtherBuilding = 16  -- building
 numberOf MonthState = 17  -- month
 numberOf NoSuchUnit = 18  -- place
+numberOf BadYearSums = 19  -- sums (2026-02)
 
 -- the place: the row from 0 for 6 and 7, else 0
 abbrev pub placeOf : Refusal → ℕ
@@ -50,6 +51,7 @@ placeOf BadYearBook = 0
 placeOf OtherBuilding = 0
 placeOf MonthState = 0
 placeOf NoSuchUnit = 0
+placeOf BadYearSums = 0
 
 -- A rule `condition ⇒ refusal`.
 infix 20 _⇒_

@@ -1,4 +1,4 @@
-// Why a sheet or a call is refused (document 01, "Refused sheets and calls"). The row cases hold the row's place, from 0.
+// Why a sheet or a call is refused (document 01, "Refused sheets and calls", and 19 by request 2026-02). The row cases hold the row's place, from 0.
 ghost use mathlib.Core.Path.{_≡_};
 ghost use Rattle.sheet.specs.Refusals.{numberOf, placeOf};
 
@@ -21,6 +21,7 @@ pub enum Refusal {
     OtherBuilding,
     MonthState,
     NoSuchUnit,
+    BadYearSums,
 }
 
 pub enum Outcome {
@@ -53,6 +54,7 @@ fn told_by(r: Refusal) -> Told
         Refusal::OtherBuilding => Told(16, 0),
         Refusal::MonthState => Told(17, 0),
         Refusal::NoSuchUnit => Told(18, 0),
+        Refusal::BadYearSums => Told(19, 0),
     }
 }
 

@@ -1,10 +1,14 @@
--- How far the places of refusals go. proofs/Places.antt shows it.
+-- A fact of a refusal, if there is one; how far its place goes. proofs/Places.antt shows it.
 use Prim.Native.Nat.{ℕ, _<_}
+use Rattle.sheet.specs.declared.refusal.Refusal.{Refusal}
 use Rattle.sheet.specs.declared.refusal.Outcome.{Outcome}
 use Rattle.sheet.specs.declared.refusal.Outcome.the-variants.{Accepted, Refused}
 use Rattle.sheet.specs.Refusals.{placeOf}
 
+abbrev pub IfRefused : (Refusal → Type 0) → Outcome → Type 0
+IfRefused P Accepted = Unit {0}
+IfRefused P (Refused r) = P r
+
 -- a refusal's place is below k
 abbrev pub PlaceBelow : ℕ → Outcome → Type 0
-PlaceBelow k Accepted = Unit {0}
-PlaceBelow k (Refused r) = placeOf r < k
+PlaceBelow k = IfRefused (λ r. placeOf r < k)

@@ -62,6 +62,9 @@ enum-told-15 c = search needs
 enum-told-16 : tie.Need-enum-told-16
 enum-told-16 c = search needs
 
+enum-told-17 : tie.Need-enum-told-17
+enum-told-17 c = search needs
+
 returns : tie.Need-returns
 returns c = told (c .enum-told .given .1)
 
@@ -116,6 +119,9 @@ returns-17 c = told (c .enum-told15 .given .1)
 returns-18 : tie.Need-returns-18
 returns-18 c = told (c .enum-told16 .given .1)
 
+returns-19 : tie.Need-returns-19
+returns-19 c = told (c .enum-told17 .given .1)
+
 pub told-by-spec : {M : Type 1} → statement M
 told-by-spec =
     tie.close
@@ -138,6 +144,7 @@ told-by-spec =
     enum-told-14
     enum-told-15
     enum-told-16
+    enum-told-17
     returns
     returns-2
     returns-3
@@ -155,4 +162,5 @@ told-by-spec =
     returns-15
     returns-16
     returns-17
-    returns-18)
+    returns-18
+    returns-19)
