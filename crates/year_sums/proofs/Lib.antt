@@ -1,0 +1,3 @@
+-- The laws of an update.
+pub mod Lists
+pub mod Updating
