@@ -4,7 +4,7 @@ use mathlib.Core.Bool.{Bool}
 use mathlib.Core.List.{List, _++_}
 use Prim.Native.Nat.{ℕ, _+_, _*_, _-_, _≤_}
 use native.Mathlib.Omega.{arith}
-use lib.ListN.{length, getD, take, drop, replicate}
+use lib.ListN.{length, getD, take, drop, replicate, List·getD-eq-default}
 use lib.Seq.{length-take-le}
 use Rattle.sheet.specs.declared.refusal.Refusal.{Refusal}
 use Rattle.sheet.specs.declared.refusal.Outcome.{Outcome}
@@ -15,7 +15,7 @@ use Rattle.sheet.specs.Layout.{sheetOf}
 use Rattle.sheet.specs.Check.{checked}
 use Rattle.sheet.specs.Inner.Fits.{Fits}
 use Rattle.sheet.proofs.Fits.{fits}
-use Rattle.month.specs.Month.{billCents, monthRules}
+use Rattle.month.specs.Month.{billCents, statementOf, monthRules}
 use Rattle.month.proofs.Accepted.{fits-checked}
 use Rattle.month.proofs.Bounds.{sum-bounds}
 use Rattle.settlement.specs.Settle.{settleAnswer, statementAfter}
@@ -23,9 +23,10 @@ use Rattle.settlement.proofs.Answers.{answer-is, settles, statement-is}
 use Rattle.settlement.proofs.Parts.{rest-untouched}
 use Rattle.yearbook.specs.LentBook.{bookLength, markAt, blockLength, putMonth, putSheet}
 use Rattle.yearbook.specs.Inner.Rows.{HoldsRows}
-use Rattle.yearbook.specs.Inner.Bring.{wrongMark, wrongMonth, Passed, Brings}
+use Rattle.yearbook.specs.Inner.Bring.{wrongMark, wrongMonth, NewBlock, Passed, Brings}
 use Rattle.yearbook.proofs.Sound.{book-sound}
-use Rattle.yearbook.proofs.Settled.{block-length}
+use Rattle.yearbook.proofs.Stores.{zeros-after}
+use Rattle.yearbook.proofs.Settled.{statement-length, block-length}
 
 -- ---- a sheet that passes 1 to 7
 pub checked-rows : (sheet : List ℕ) (n : ℕ) → n ≡ sheetOf sheet .unitCount → checked 32 sheet ≡ Accepted → HoldsRows sheet n
@@ -77,6 +78,19 @@ module _ {b sheet block : List ℕ} (h : Brings b sheet block) where
 
   pub brings-block : length block ≡ blockLength
   brings-block = rw (h .block-is) (block-length sheet (h .settles))
+
+  -- what an update of the sums relies on
+  pub brings-new : (month n : ℕ) → month ≡ sheetOf sheet .month → n ≡ sheetOf sheet .unitCount → NewBlock b (month - 1) n block
+  brings-new month n e f =
+      let head = brings-fits .header in
+      record {
+        size = brings-size;
+        low = omega (arith, head .month);
+        few = omega (arith, head .unitCount);
+        full = brings-block;
+        rest = λ k l. rw (h .block-is) (zeros-after (statementOf newest (sheetOf sheet)) (blockLength - 8 * sheetOf sheet .unitCount) k
+            ∙ List·getD-eq-default (statementOf newest (sheetOf sheet)) 0 (omega (arith, statement-length sheet (h .settles))));
+      }
 
   module _ (month : ℕ) (month-is : month ≡ sheetOf sheet .month) where
     pub brings-low : 1 ≤ month

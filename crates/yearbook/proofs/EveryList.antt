@@ -1,10 +1,12 @@
 -- Demand 3 (specs/Theorem.antt). Assumes nothing.
 use mathlib.Core.Path.{_≡_, refl, ap₂, sym, subst, _∙_}
+use mathlib.Core.Logic.{_≢_}
 use mathlib.Core.List.{List, _∷_, map}
 use Prim.Native.Nat.{ℕ, _+_, _<_}
 use native.Mathlib.Omega.{arith}
-use lib.ListN.{length, getD}
+use lib.ListN.{getD}
 use Rattle.apportion.specs.Shares.{sum}
+use Rattle.sheet.specs.declared.refusal.Refusal.the-variants.{BadYearSums}
 use Rattle.sheet.specs.RuleSets.{newest}
 use Rattle.sheet.specs.Layout.{sheetOf}
 use Rattle.sheet.specs.Tests.{Each}
@@ -15,25 +17,27 @@ use Rattle.month.specs.Laws.{sumTo, MonthLaws}
 use Rattle.month.proofs.Nearness.{near-more}
 use Rattle.month.proofs.Laws.{settled-laws}
 use Rattle.month.proofs.Lists.{sumTo-cong}
-use Rattle.yearbook.specs.Calls.{Call, Reply, year, totals}
+use Rattle.yearbook.specs.Calls.{Call, Reply, refused}
 use Rattle.yearbook.specs.PlainBook.{PlainBook, openedPlain, standing, numberIn, unitSums, called, plainReplies, plainAfter}
-use Rattle.yearbook.specs.LentBook.{Answered}
+use Rattle.yearbook.specs.LentBook.{Lent}
+use Rattle.yearbook.specs.Matches.{Matches}
 use Rattle.yearbook.specs.Theorem.{CallsMade, no-call, then, Kept, EveryListOfCalls}
 use Rattle.yearbook.proofs.Sums.{each-held, each-map, sums-swap, sum-cong, near-sum, eight-at}
-use Rattle.yearbook.proofs.Sound.{sound-book}
-use Rattle.yearbook.proofs.Answers.{open-accepted, year-totals}
-use Rattle.yearbook.proofs.Shows.{Good, Shows, shows-sound, shows-fresh}
-use Rattle.yearbook.proofs.Steps.{marks-so, year-sums-so, call-so}
+use Rattle.yearbook.proofs.Answers.{open-accepted}
+use Rattle.yearbook.proofs.Shows.{Good, Shows, shows-fresh}
+use Rattle.yearbook.proofs.Matches.{match-fresh, match-kept}
+use Rattle.yearbook.proofs.Never19.{plain-never}
+use Rattle.yearbook.proofs.Steps.{year-call, call-so}
 
 -- ---- a list of calls
-run : {n : ℕ} {b b′ : List ℕ} {cs : List Call} {rs : List Reply} → CallsMade b cs rs b′ → (p : PlainBook) → Shows n b p
-    → (rs ≡ plainReplies p cs) × Shows n b′ (plainAfter p cs)
+run : {n : ℕ} {l l′ : Lent} {cs : List Call} {rs : List Reply} → CallsMade l cs rs l′ → (p : PlainBook) → Shows n (l .book) p → Matches l
+    → (rs ≡ plainReplies p cs) × Shows n (l′ .book) (plainAfter p cs) × Matches l′
 unfolding plainReplies plainAfter
-run no-call p h = (refl, h)
-run {n} (then {c = c} a k) p h =
-    let f = call-so h c in
-    let rest = run k (called p c .after) (subst (λ (l : List ℕ). Shows n l (called p c .after)) (sym (a .after)) (f .shows)) in
-    (ap₂ (λ (x : Reply) (l : List Reply). x ∷ l) (a .reply ∙ f .reply) (rest .0), rest .1)
+run no-call p h m = (refl, h, m)
+run {n} (then {l = l} {l′ = l′} {c = c} {r = r} a k) p h m =
+    let f = call-so h m c in
+    let rest = run k (called p c .after) (subst (λ (x : Lent). Shows n (x .book) (called p c .after)) (sym (a .after)) (f .shows)) (match-kept l l′ c r a m) in
+    (ap₂ (λ (x : Reply) (l : List Reply). x ∷ l) (a .reply ∙ f .reply) (rest .0), rest .1, rest .2)
 
 -- ---- the laws of the standing months
 laws : {n : ℕ} {sheet : List ℕ} → Good n sheet → MonthLaws newest (sheetOf sheet) (monthOf newest (sheetOf sheet))
@@ -52,7 +56,7 @@ sums-of-all p n at few whole h =
     ∙ sums-swap n (standing p) (λ u s. sumTo 4 (λ j. numberIn u (at j) s))
     ∙ sum-cong (standing p) _ whole h
 
-module _ {n : ℕ} {b : List ℕ} {p : PlainBook} (h : Shows n b p) where
+module _ {n : ℕ} {l : Lent} {p : PlainBook} (h : Shows n (l .book) p) (m : Matches l) where
   good : Each (Good n) (standing p)
   good = each-held (Good n) (p .months) (λ i l. h .good i (omega (arith, h .twelve)))
 
@@ -66,30 +70,34 @@ module _ {n : ℕ} {b : List ℕ} {p : PlainBook} (h : Shows n b p) where
 
   energy-of : (u j : ℕ) → u < n → j < 4 → (s : List ℕ) → Good n s → Near (numberIn u j s) (energyPortion newest (sheetOf s) u j) 4
   unfolding numberIn monthOf
-  energy-of u j l m s g = laws g .energy-near u j (omega (arith, g .units)) m
+  energy-of u j x y s g = laws g .energy-near u j (omega (arith, g .units)) y
 
   cents-of : (u j : ℕ) → u < n → j < 4 → (s : List ℕ) → Good n s → Near (numberIn u (4 + j) s) (billPart newest (sheetOf s) u j) 1
   unfolding numberIn monthOf
-  cents-of u j l m s g = laws g .cents-near u j (omega (arith, g .units)) m
+  cents-of u j x y s g = laws g .cents-near u j (omega (arith, g .units)) y
 
-  year-call : (place : ℕ) → place < n → Answered b (year place) (totals (length (standing p)) (unitSums p place)) b
-  year-call place l = rw (← marks-so h, ← year-sums-so h place l) (year-totals b place (sound-book b (shows-sound h)) (omega (arith, h .count)))
-
-  kept : Kept n p b
+  kept : Kept n p l
   kept = record {
-    year-calls = year-call;
+    year-calls = year-call h m;
     settled-months = each-map (λ s g. g .settles) (standing p) good;
     energies-add = sums-of-all p n (λ j. j) (λ j l. omega arith) _ (each-map energies (standing p) good);
     cents-add = sums-of-all p n (λ j. 4 + j) (λ j l. omega arith) _ (each-map cents (standing p) good);
-    energy-near = λ u j l m. rw (sum-at p u j (omega arith)) (near-sum (standing p) _ _ 4 (each-map (λ s g. energy-of u j l m s g) (standing p) good));
-    cents-near = λ u j l m. rw (sum-at p u (4 + j) (omega arith))
-        (near-more (omega arith) (near-sum (standing p) _ _ 1 (each-map (λ s g. cents-of u j l m s g) (standing p) good)));
+    energy-near = λ u j x y. rw (sum-at p u j (omega arith)) (near-sum (standing p) _ _ 4 (each-map (λ s g. energy-of u j x y s g) (standing p) good));
+    cents-near = λ u j x y. rw (sum-at p u (4 + j) (omega arith))
+        (near-more (omega arith) (near-sum (standing p) _ _ 1 (each-map (λ s g. cents-of u j x y s g) (standing p) good)));
+    matches = m;
   }
 
 -- ---- the theorem
 pub every-list-of-calls : EveryListOfCalls
-every-list-of-calls before opening start b o calls replies size passes opens made =
-    let fresh = open-accepted before opening size passes in
-    let shown = subst (λ (l : List ℕ). Shows (sheetOf opening .unitCount) l (openedPlain opening)) (fresh .after ∙ sym (opens .after)) (shows-fresh opening passes) in
-    let all = run made (openedPlain opening) shown in
-    record { opens = opens .answer ∙ sym (fresh .answer); same-replies = all .0; kept = kept (all .1) }
+every-list-of-calls before start l opening o calls replies size count passes opens made =
+    let fresh = open-accepted before opening size passes count in
+    let start-is = fresh .after ∙ sym (opens .after) in
+    let shown = subst (λ (x : Lent). Shows (sheetOf opening .unitCount) (x .book) (openedPlain opening)) start-is (shows-fresh opening passes) in
+    let all = run made (openedPlain opening) shown (subst Matches start-is (match-fresh opening)) in
+    record {
+      opens = opens .answer ∙ sym (fresh .answer);
+      same-replies = all .0;
+      never-19 = subst (Each (λ r. r ≢ refused BadYearSums)) (sym (all .0)) (plain-never (openedPlain opening) calls);
+      kept = kept (all .1) (all .2);
+    }

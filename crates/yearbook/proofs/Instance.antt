@@ -1,4 +1,4 @@
--- Demand 3 at the computed run (specs/Cases/Runs.antt), on a list of 15,557 sevens: all that it asks can be met, and what it says holds in literal numbers. Assumes nothing.
+-- Demand 3 at the computed run (specs/Cases/Runs.antt), on lists of 15,557 and 1,280 sevens: all that it asks can be met, and what it says holds in literal numbers. Assumes nothing.
 use mathlib.Core.Path.{_≡_, refl, ap, sym, _∙_}
 use mathlib.Core.List.{List, [], _∷_, map}
 use Prim.Native.Nat.{ℕ, _+_}
@@ -20,40 +20,41 @@ use Rattle.month.specs.Laws.{sumTo}
 use Rattle.month.specs.Month.{hotWaterWh, spaceHeatWh, zeroWaterDivisor, zeroDivisor, monthRules, billCents, costs, fourAndFour, statementOf, monthOf, settled, settleRules, settledSheet}
 use Rattle.yearbook.specs.Calls.{Call, post, replace, withdraw, year, Reply, accepted, totals}
 use Rattle.yearbook.specs.PlainBook.{PlainBook, openedPlain, standing, stands, sheetsOf, nowHolds, notKept, brought, withdrawn, numberIn, unitSums, told, called, plainReplies, plainAfter}
-use Rattle.yearbook.specs.LentBook.{openAnswer, bookOpened, lentReply, lentAfter}
+use Rattle.yearbook.specs.LentBook.{Lent, lent, openAnswer, opened, lentReply, lentAfter}
+use Rattle.yearbook.specs.Matches.{Matches}
 use Rattle.yearbook.specs.Theorem.{CallsMade, no-call, then, YearBook}
 use Rattle.yearbook.specs.Cases.Runs.{byArea, byRisers, overcharged, oneUnit, otherId, answerOf, callOf, expected, run, run-right}
 use Rattle.yearbook.specs.Cases.Written.{january, december, januaryNumbers, decemberSettled, ofMonth1, numbers, Left}
 use Rattle.yearbook.proofs.EveryList.{every-list-of-calls}
 use Rattle.yearbook.proofs.Written.{lent-lists}
 
--- ---- calls made one after the other on the lent list
-abbrev repliesOf : List ℕ → List Call → List Reply
-repliesOf b [] = []
-repliesOf b (c ∷ cs) = lentReply b c ∷ repliesOf (lentAfter b c) cs
+-- ---- calls made one after the other on the lent lists
+abbrev repliesOf : Lent → List Call → List Reply
+repliesOf l [] = []
+repliesOf l (c ∷ cs) = lentReply l c ∷ repliesOf (lentAfter l c) cs
 
-abbrev afterAll : List ℕ → List Call → List ℕ
-afterAll b [] = b
-afterAll b (c ∷ cs) = afterAll (lentAfter b c) cs
+abbrev afterAll : Lent → List Call → Lent
+afterAll l [] = l
+afterAll l (c ∷ cs) = afterAll (lentAfter l c) cs
 
-made : (b : List ℕ) (cs : List Call) → CallsMade b cs (repliesOf b cs) (afterAll b cs)
-made b [] = no-call
-made b (c ∷ cs) = then (record { reply = refl; after = refl }) (made (lentAfter b c) cs)
+made : (l : Lent) (cs : List Call) → CallsMade l cs (repliesOf l cs) (afterAll l cs)
+made l [] = no-call
+made l (c ∷ cs) = then (record { reply = refl; after = refl }) (made (lentAfter l c) cs)
 
 -- ---- the run
-sevens : List ℕ
-sevens = replicate 15557 7
+sevens : Lent
+sevens = lent (replicate 15557 7) (replicate 1280 7)
 
 opening : List ℕ
 opening = overcharged 6
 
-start : List ℕ
-start = bookOpened sevens opening
+start : Lent
+start = opened sevens opening
 
 calls : List Call
 calls = map callOf run
 
-last : List ℕ
+last : Lent
 last = afterAll start calls
 
 passes : checked 32 opening ≡ Accepted
@@ -63,8 +64,8 @@ passes = refl
 at-calls : (cs : List Call) → YearBook opening (openAnswer sevens opening) cs (repliesOf start cs) (afterAll start cs)
 unfolding sevens start
 at-calls cs =
-    every-list-of-calls sevens opening start (afterAll start cs) (openAnswer sevens opening) cs (repliesOf start cs)
-    (length-replicate {A = ℕ} 15557 7) passes (record { answer = refl; after = refl }) (made start cs)
+    every-list-of-calls sevens start (afterAll start cs) opening (openAnswer sevens opening) cs (repliesOf start cs)
+    (length-replicate {A = ℕ} 15557 7) (length-replicate {A = ℕ} 1280 7) passes (record { answer = refl; after = refl }) (made start cs)
 
 at-run : YearBook opening (openAnswer sevens opening) calls (repliesOf start calls) last
 unfolding last
@@ -93,9 +94,10 @@ record Said : Type 0 where
   cent : Near 8 (412000 over 50000) 2
   -- a month of model 4, its first unit at the upper limit, 4,200 × 300 / 420 Wh
   by-risers : Near 3000 (504000000000000000000 over 168000000000000000) 4
-  -- the lent list of the 19th call, withdraw 1, and of the last, where january stands again
-  cleared : Left (afterAll start (take 18 calls)) (afterAll start (take 19 calls)) (numbers 0 0 0 []) ofMonth1
-  written : Left (afterAll start (take 23 calls)) last (numbers 1 1000 10 januaryNumbers) ofMonth1
+  matches : Matches last
+  -- the lent lists of the 19th call, withdraw 1, and of the last, where january stands again
+  cleared : Left (afterAll start (take 18 calls)) (afterAll start (take 19 calls)) (withdraw 1) (numbers 0 0 0 []) ofMonth1
+  written : Left (afterAll start (take 23 calls)) last (post january) (numbers 1 1000 10 januaryNumbers) ofMonth1
   each-accepted : repliesOf start six ≡ accepted ∷ accepted ∷ accepted ∷ accepted ∷ accepted ∷ accepted ∷ []
 
 at-run-said : Said
@@ -120,6 +122,7 @@ at-run-said =
       energy = k .energy-near 1 0 (omega arith) (omega arith);
       cent = k .cents-near 1 0 (omega arith) (omega arith);
       by-risers = at-calls (post (byRisers 3 4200) ∷ []) .kept .energy-near 0 0 (omega arith) (omega arith);
+      matches = k .matches;
       cleared = lent-lists .called .1 .0 .0 _ (ap (λ (l : List Reply). getD l 18 accepted) (at-run .same-replies));
       written = lent-lists .called .0 .0 _ (ap (λ (l : List Reply). getD l 23 accepted) (at-run .same-replies));
       each-accepted = at-calls six .same-replies;

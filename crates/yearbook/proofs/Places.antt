@@ -1,14 +1,15 @@
 -- The place of every refusal of the book calls is below 160. Assumes nothing.
 use mathlib.Core.Path.{_≡_, refl, sym, subst}
 use mathlib.Core.Bool.{Bool, not}
-use mathlib.Core.List.{List, [], _∷_, _++_, append-nil, append-assoc}
-use Prim.Native.Nat.{ℕ, _-_}
+use mathlib.Core.List.{List, [], _∷_, _++_, append-assoc}
+use Prim.Native.Nat.{ℕ, _-_, _<_}
 use native.Mathlib.Omega.{arith}
 use lib.Dec.{ltb}
-use Rattle.sheet.specs.declared.refusal.Refusal.the-variants.{BadYearBook, OtherBuilding, MonthState, NoSuchUnit}
+use Rattle.sheet.specs.declared.refusal.Refusal.{Refusal}
+use Rattle.sheet.specs.declared.refusal.Refusal.the-variants.{BadYearBook, OtherBuilding, MonthState, NoSuchUnit, BadYearSums}
 use Rattle.sheet.specs.declared.refusal.Outcome.{Outcome}
 use Rattle.sheet.specs.declared.refusal.Outcome.the-variants.{Accepted, Refused}
-use Rattle.sheet.specs.Refusals.{Rule, _⇒_, firstRefusal}
+use Rattle.sheet.specs.Refusals.{Rule, _⇒_, firstRefusal, placeOf}
 use Rattle.sheet.specs.Inner.Places.{PlaceBelow}
 use Rattle.sheet.specs.Layout.{sheetOf}
 use Rattle.sheet.specs.Check.{sheetRules}
@@ -16,48 +17,57 @@ use Rattle.sheet.proofs.Places.{place-rule, sheet-place}
 use Rattle.month.specs.Month.{monthRules, settleRules}
 use Rattle.month.proofs.Places.{month-place}
 use Rattle.yearbook.specs.Calls.{replyOf}
-use Rattle.yearbook.specs.LentBook.{unitCountIn, placeOfMonth, marked, wrongSize, badBook, otherBuilding, sheetCallRules, openAnswer, postAnswer, replaceAnswer, withdrawAnswer, yearRules, yearOutcome}
+use Rattle.year_sums.specs.YearSums.{wrongSums, badSums}
+use Rattle.yearbook.specs.LentBook.{Lent, unitCountIn, placeOfMonth, marked, wrongSize, badBook, otherBuilding, blockIn, blockOf, zeroBlock, sheetCallRules, openAnswer, postAnswer, replaceAnswer, withdrawAnswer, yearRules, yearOutcome}
 
-nothing : PlaceBelow 160 (firstRefusal [])
-unfolding firstRefusal
-nothing = tt
+-- a rule of place 0 in front, and the last one
+module _ (t : Bool) (r : Refusal) (first : placeOf r < 160) where
+  ahead : (rules : List Rule) → PlaceBelow 160 (firstRefusal rules) → PlaceBelow 160 (firstRefusal ((t ⇒ r) ∷ rules))
+  ahead rules f = place-rule 160 t r rules first (λ _. f)
 
-pub open-place : (b sheet : List ℕ) → PlaceBelow 160 (openAnswer b sheet)
+  last : PlaceBelow 160 (firstRefusal ((t ⇒ r) ∷ []))
+  unfolding firstRefusal
+  last = ahead [] tt
+
+pub open-place : (l : Lent) (sheet : List ℕ) → PlaceBelow 160 (openAnswer l sheet)
 unfolding openAnswer
-open-place b sheet =
-    place-rule 160 (wrongSize b) BadYearBook (sheetRules 32 sheet) (omega arith)
-    (λ _. subst (λ (rules : List Rule). PlaceBelow 160 (firstRefusal rules)) (append-nil (sheetRules 32 sheet)) (sheet-place 32 sheet [] nothing))
+open-place l sheet =
+    ahead (wrongSize (l .book)) BadYearBook (omega arith) _ (sheet-place 32 sheet ((wrongSums (l .sums) ⇒ BadYearSums) ∷ []) (last (wrongSums (l .sums)) BadYearSums (omega arith)))
 
-bring-place : (b sheet : List ℕ) (wrong : Bool) → PlaceBelow 160 (firstRefusal (sheetCallRules b sheet wrong))
+bring-place : (l : Lent) (sheet : List ℕ) (wrong : Bool) (old : List ℕ) → PlaceBelow 160 (firstRefusal (sheetCallRules l sheet wrong old))
 unfolding sheetCallRules settleRules
-bring-place b sheet wrong =
+bring-place l sheet wrong old =
     let s = sheetOf sheet in
-    let last = (otherBuilding b s ⇒ OtherBuilding) ∷ (wrong ⇒ MonthState) ∷ [] in
-    place-rule 160 (badBook b) BadYearBook ((sheetRules 32 sheet ++ monthRules s) ++ last) (omega arith)
-    (λ _. subst (λ (rules : List Rule). PlaceBelow 160 (firstRefusal rules)) (sym (append-assoc (sheetRules 32 sheet) (monthRules s) last))
-    (sheet-place 32 sheet (monthRules s ++ last)
-    (month-place s last
-    (place-rule 160 (otherBuilding b s) OtherBuilding ((wrong ⇒ MonthState) ∷ []) (omega arith) (λ _. place-rule 160 wrong MonthState [] (omega arith) (λ _. nothing))))))
+    let behind = (otherBuilding (l .book) s ⇒ OtherBuilding) ∷ (wrong ⇒ MonthState) ∷ (badSums (l .sums) old (blockOf sheet) ⇒ BadYearSums) ∷ [] in
+    ahead (badBook (l .book)) BadYearBook (omega arith) _
+    (subst (λ (rules : List Rule). PlaceBelow 160 (firstRefusal rules)) (sym (append-assoc (sheetRules 32 sheet) (monthRules s) behind))
+    (sheet-place 32 sheet (monthRules s ++ behind)
+    (month-place s behind
+    (ahead (otherBuilding (l .book) s) OtherBuilding (omega arith) _
+    (ahead wrong MonthState (omega arith) _ (last (badSums (l .sums) old (blockOf sheet)) BadYearSums (omega arith)))))))
 
-pub post-place : (b sheet : List ℕ) → PlaceBelow 160 (postAnswer b sheet)
+pub post-place : (l : Lent) (sheet : List ℕ) → PlaceBelow 160 (postAnswer l sheet)
 unfolding postAnswer
-post-place b sheet = bring-place b sheet (marked b (placeOfMonth sheet))
+post-place l sheet = bring-place l sheet (marked (l .book) (placeOfMonth sheet)) zeroBlock
 
-pub replace-place : (b sheet : List ℕ) → PlaceBelow 160 (replaceAnswer b sheet)
+pub replace-place : (l : Lent) (sheet : List ℕ) → PlaceBelow 160 (replaceAnswer l sheet)
 unfolding replaceAnswer
-replace-place b sheet = bring-place b sheet (not (marked b (placeOfMonth sheet)))
+replace-place l sheet = bring-place l sheet (not (marked (l .book) (placeOfMonth sheet))) (blockIn (l .book) (placeOfMonth sheet))
 
-pub withdraw-place : (b : List ℕ) (month : ℕ) → PlaceBelow 160 (withdrawAnswer b month)
+pub withdraw-place : (l : Lent) (month : ℕ) → PlaceBelow 160 (withdrawAnswer l month)
 unfolding withdrawAnswer
-withdraw-place b month =
-    place-rule 160 (badBook b) BadYearBook _ (omega arith)
-    (λ _. place-rule 160 (ltb month 1) MonthState _ (omega arith)
-    (λ _. place-rule 160 (ltb 12 month) MonthState _ (omega arith) (λ _. place-rule 160 (not (marked b (month - 1))) MonthState [] (omega arith) (λ _. nothing))))
+withdraw-place l month =
+    ahead (badBook (l .book)) BadYearBook (omega arith) _
+    (ahead (ltb month 1) MonthState (omega arith) _
+    (ahead (ltb 12 month) MonthState (omega arith) _
+    (ahead (not (marked (l .book) (month - 1))) MonthState (omega arith) _
+    (last (badSums (l .sums) (blockIn (l .book) (month - 1)) zeroBlock) BadYearSums (omega arith)))))
 
-pub year-place : (b : List ℕ) (place : ℕ) → PlaceBelow 160 (yearOutcome b place)
+pub year-place : (l : Lent) (place : ℕ) → PlaceBelow 160 (yearOutcome l place)
 unfolding yearOutcome yearRules
-year-place b place =
-    place-rule 160 (badBook b) BadYearBook _ (omega arith) (λ _. place-rule 160 (not (ltb place (unitCountIn b))) NoSuchUnit [] (omega arith) (λ _. nothing))
+year-place l place =
+    ahead (badBook (l .book)) BadYearBook (omega arith) _
+    (ahead (not (ltb place (unitCountIn (l .book)))) NoSuchUnit (omega arith) _ (last (wrongSums (l .sums)) BadYearSums (omega arith)))
 
 -- a reply tells the outcome
 pub same-outcome : (o p : Outcome) → replyOf o ≡ replyOf p → o ≡ p

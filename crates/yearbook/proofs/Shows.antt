@@ -16,10 +16,11 @@ use Rattle.sheet.proofs.Fits.{fits}
 use Rattle.sheet.proofs.Units.{ids-count}
 use Rattle.month.specs.Month.{Settled, monthOf, settledSheet, statementOf, billCents}
 use Rattle.yearbook.specs.PlainBook.{PlainBook, openedPlain, nowHolds}
-use Rattle.yearbook.specs.LentBook.{bookLength, idsAt, blockLength, unitCountIn, markAt, meterAt, billAt, blockAt, idsIn, padded, putMonth, putSheet, clearMonth, freshBook}
+use Rattle.yearbook.specs.LentBook.{bookLength, idsAt, blockLength, unitCountIn, markAt, meterAt, billAt, blockAt, idsIn, padded, putMonth, putSheet, clearMonth, freshBook, ifMarked}
 use Rattle.yearbook.specs.Inner.Sound.{Sound}
 use Rattle.yearbook.proofs.Sums.{orZero, IfHeld}
-use Rattle.yearbook.proofs.Stores.{zero-at, zeros-after}
+use Rattle.year_sums.proofs.Lists.{zero-at}
+use Rattle.yearbook.proofs.Stores.{zeros-after}
 use Rattle.yearbook.proofs.Settled.{block-length}
 use Rattle.yearbook.proofs.Writes.{put-length, put-mark, put-meter, put-bill, put-block, put-other, fresh-length, fresh-count, fresh-low, fresh-high, fresh-id}
 
@@ -51,6 +52,11 @@ pub record Shows (n : ℕ) (b : List ℕ) (p : PlainBook) : Type 0 where
 mark-low : {b : List ℕ} {i : ℕ} (held : Option (List ℕ)) → At b i held → getD b (markAt i) 0 ≤ 1
 mark-low none a = omega (arith, a .mark)
 mark-low (some s) a = omega (arith, a .mark)
+
+-- a number of the month, by its mark
+pub if-marked : {b : List ℕ} {i x : ℕ} (f : List ℕ → ℕ) (held : Option (List ℕ)) → At b i held → x ≡ orZero f held → ifMarked (getD b (markAt i) 0) x ≡ orZero f held
+if-marked f none a e = rw (a .mark)
+if-marked f (some s) a e = rw (a .mark) e
 
 module _ {n : ℕ} {b : List ℕ} {p : PlainBook} (h : Shows n b p) where
   -- 15 can't arise
@@ -84,7 +90,7 @@ block-full n (some s) g = block-length s (g .settles)
 put : List ℕ → ℕ → Option (List ℕ) → List ℕ
 put b i held = putMonth b i (orZero (λ s. 1) held) (orZero (λ s. sheetOf s .sharedMeter) held) (orZero (λ s. billCents (sheetOf s)) held) (blockOf held)
 
-outside : (i k x : ℕ) → k ≢ i → x < blockLength → (blockAt k + x < blockAt i) ⊎ (blockAt i + blockLength ≤ blockAt k + x)
+pub outside : (i k x : ℕ) → k ≢ i → x < blockLength → (blockAt k + x < blockAt i) ⊎ (blockAt i + blockLength ≤ blockAt k + x)
 outside i k x d h = elim (decLt k i) [ yes l ↦ inl (omega arith) | no l ↦ inr (omega arith) ]
 
 module _ (b : List ℕ) (size : length b ≡ bookLength) (i : ℕ) (low : i < 12) (held : Option (List ℕ)) (full : length (blockOf held) ≡ blockLength) where

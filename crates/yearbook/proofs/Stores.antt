@@ -3,11 +3,11 @@ use mathlib.Core.Path.{_≡_, refl, ap, sym, _∙_}
 use mathlib.Core.List.{List, [], _∷_, _++_}
 use Prim.Native.Nat.{ℕ, zero, suc, _+_, _≤_, _<_}
 use native.Mathlib.Omega.{arith}
-use native.Mathlib.Decide.{decLt}
 use native.Mathlib.Nat.{add-zero, add-suc, suc-add}
 use native.Mathlib.Numerals.{add-one}
-use lib.ListN.{length, getD, set, take, replicate, length-set, length-replicate, getD-replicate, List·getD-eq-default}
+use lib.ListN.{length, getD, set, take, replicate, length-set}
 use lib.Seq.{sets, getD-set-same, getD-set-other, length-take-le, take-suc}
+use Rattle.year_sums.proofs.Lists.{zero-at}
 
 -- ---- a run of writes: the places below it, above it, in it
 pub getD-sets-below : (vs l : List ℕ) (i k : ℕ) → k < i → getD (sets l i vs) k 0 ≡ getD l k 0
@@ -39,14 +39,7 @@ store-next vs l base i h =
     let e : length (take i vs) ≡ i = length-take-le i vs (omega arith) in
     rw (add-one, take-suc vs i 0, sets-snoc, e)
 
--- ---- zeros
-pub zero-at : (n x : ℕ) → getD (replicate {A = ℕ} n 0) x 0 ≡ 0
-zero-at n x = elim (decLt x n) [
-  | yes h ↦ getD-replicate n x 0 0 h
-  | no h ↦ List·getD-eq-default (replicate n 0) 0 (rw length-replicate (omega arith))
-]
-
--- numbers with zeros after them
+-- ---- numbers with zeros after them
 pub zeros-after : (xs : List ℕ) (n x : ℕ) → getD (xs ++ replicate n 0) x 0 ≡ getD xs x 0
 zeros-after [] n x = zero-at n x
 zeros-after (y ∷ xs) n zero = refl

@@ -25,7 +25,7 @@ abbrev pub IfHeld : (List ℕ → Type 0) → Option (List ℕ) → Type 0
 IfHeld P none = Unit {0}
 IfHeld P (some sheet) = P sheet
 
-sumTo-zeros : (k : ℕ) → sumTo k (λ i. 0) ≡ 0
+pub sumTo-zeros : (k : ℕ) → sumTo k (λ i. 0) ≡ 0
 unfolding sumTo
 sumTo-zeros zero = refl
 sumTo-zeros (suc k) = omega (arith, sumTo-zeros k)

@@ -10,7 +10,8 @@ use lib.Seq.{getD-set-same, getD-set-other, length-sets, ext-getD}
 use Rattle.sheet.specs.Layout.{sheetOf}
 use Rattle.sheet.proofs.Units.{ids-count}
 use Rattle.yearbook.specs.LentBook.{bookLength, idsAt, blockLength, unitCountIn, markAt, meterAt, billAt, blockAt, padded, putMonth, zeroBook, freshBook}
-use Rattle.yearbook.proofs.Stores.{getD-sets-below, getD-sets-above, getD-sets-in, zero-at}
+use Rattle.year_sums.proofs.Lists.{zero-at}
+use Rattle.yearbook.proofs.Stores.{getD-sets-below, getD-sets-above, getD-sets-in}
 
 -- ---- a month: its mark, M, bill and block
 pub put-length : (b : List ℕ) (i mark meter bill : ℕ) (block : List ℕ) → length (putMonth b i mark meter bill block) ≡ length b

@@ -1,5 +1,5 @@
--- The year book in a lent list of 15,557 numbers (document 01, "Year book", refusals 15 to 18): for each call the answer and the list afterwards.
--- Any list, of any length and contents, has them.
+-- The year book in a lent list of 15,557 numbers, with the year sums beside it (document 01, "Year book", refusals 15 to 18; 2026-02, 19):
+-- for each call the answer and both lists afterwards. Any lists, of any length and contents, have them.
 use mathlib.Core.Path.{_≡_}
 use mathlib.Core.Bool.{Bool, not, _||_}
 use mathlib.Core.List.{List, [], _∷_, _++_, map}
@@ -8,7 +8,7 @@ use lib.Dec.{ltb, eqb}
 use lib.ListN.{length, getD, take, drop, set, replicate}
 use lib.Seq.{sets}
 use Rattle.sheet.specs.declared.refusal.Refusal.{Refusal}
-use Rattle.sheet.specs.declared.refusal.Refusal.the-variants.{BadYearBook, OtherBuilding, MonthState, NoSuchUnit}
+use Rattle.sheet.specs.declared.refusal.Refusal.the-variants.{BadYearBook, OtherBuilding, MonthState, NoSuchUnit, BadYearSums}
 use Rattle.sheet.specs.declared.refusal.Outcome.{Outcome}
 use Rattle.sheet.specs.declared.refusal.Outcome.the-variants.{Accepted, Refused}
 use Rattle.sheet.specs.Tests.{if_then_else_, any}
@@ -18,8 +18,17 @@ use Rattle.sheet.specs.Layout.{Sheet, sheetOf}
 use Rattle.sheet.specs.Check.{sameList, sheetRules}
 use Rattle.month.specs.Month.{billCents, statementOf, settleRules}
 use Rattle.month.specs.Laws.{sumTo}
+use Rattle.year_sums.specs.YearSums.{zeroSums, updated, wrongSums, badSums}
 use Rattle.yearbook.specs.declared.totals.YearTotals.{YearTotals}
 use Rattle.yearbook.specs.Calls.{Call, post, replace, withdraw, year, Reply, refused, totals, eight, replyOf}
+
+-- what every book call is lent: the book, and beside it the list of sums
+pub record Lent : Type 0 where
+  pub book : List ℕ
+  pub sums : List ℕ
+
+abbrev pub lent : (book sums : List ℕ) → Lent
+lent book sums = record { book = book; sums = sums }
 
 -- ---- the layout; a month's place i is its number less 1
 abbrev pub bookLength : ℕ
@@ -49,6 +58,10 @@ blockLength = 1280
 abbrev pub blockAt : ℕ → ℕ
 blockAt i = 197 + blockLength * i  -- from 197 on: 12 blocks of 1,280 statement numbers
 
+-- a month's block, all 1,280 numbers as they stand there
+abbrev pub blockIn : List ℕ → ℕ → List ℕ
+blockIn b i = take blockLength (drop (blockAt i) b)
+
 -- the place of a sheet's month
 abbrev pub placeOfMonth : List ℕ → ℕ
 placeOfMonth sheet = sheetOf sheet .month - 1
@@ -70,28 +83,30 @@ badBook b = wrongSize b || ltb 160 (unitCountIn b) || any (map (ltb 1) (take 12 
 unfoldable pub otherBuilding : List ℕ → Sheet → Bool
 otherBuilding b s = not (eqb (unitCountIn b) (s .unitCount)) || not (sameList (idsIn b) (map (λ u. u .id) (s .units)))
 
--- post and replace: 15, 1 to 12, 16, 17
-unfoldable pub sheetCallRules : List ℕ → List ℕ → (wrongMonth : Bool) → List Rule
-sheetCallRules b sheet wrongMonth =
-    (badBook b ⇒ BadYearBook)
-    ∷ (settleRules sheet ++ (otherBuilding b (sheetOf sheet) ⇒ OtherBuilding) ∷ (wrongMonth ⇒ MonthState) ∷ [])
-
--- ---- writes
+-- ---- blocks
 -- the numbers of a statement of n units, zero after 8n
 abbrev pub padded : ℕ → List ℕ → List ℕ
 padded n numbers = numbers ++ replicate (blockLength - 8 * n) 0
 
+-- the block of a sheet, as the newest rules settle it
+abbrev pub blockOf : List ℕ → List ℕ
+blockOf sheet = let s = sheetOf sheet in padded (s .unitCount) (statementOf newest s)
+
+abbrev pub zeroBlock : List ℕ
+zeroBlock = replicate blockLength 0
+
+-- ---- writes
 -- a month's mark, M, bill and block
 unfoldable pub putMonth : List ℕ → ℕ → (mark meter bill : ℕ) → (block : List ℕ) → List ℕ
 putMonth b i mark meter bill block = sets (set (set (set b (markAt i) mark) (meterAt i) meter) (billAt i) bill) (blockAt i) block
 
--- posting and replacing write the sheet as the newest rules settle it
+-- posting and replacing write the sheet
 unfoldable pub putSheet : List ℕ → List ℕ → List ℕ
-putSheet b sheet = let s = sheetOf sheet in putMonth b (placeOfMonth sheet) 1 (s .sharedMeter) (billCents s) (padded (s .unitCount) (statementOf newest s))
+putSheet b sheet = let s = sheetOf sheet in putMonth b (placeOfMonth sheet) 1 (s .sharedMeter) (billCents s) (blockOf sheet)
 
 -- withdrawing zeroes all four
 unfoldable pub clearMonth : List ℕ → ℕ → List ℕ
-clearMonth b month = putMonth b (month - 1) 0 0 0 (replicate blockLength 0)
+clearMonth b month = putMonth b (month - 1) 0 0 0 zeroBlock
 
 -- opening writes n and ids, all else 0
 unfoldable pub zeroBook : List ℕ
@@ -100,47 +115,66 @@ zeroBook = replicate bookLength 0
 unfoldable pub freshBook : List ℕ → List ℕ
 freshBook sheet = let s = sheetOf sheet in sets (set zeroBook 0 (s .unitCount)) idsAt (map (λ u. u .id) (s .units))
 
--- a refused call keeps the list
-abbrev pub afterwards : Outcome → (before written : List ℕ) → List ℕ
+-- a refused call keeps both lists
+abbrev pub afterwards : {A : Type 0} → Outcome → (before written : A) → A
 afterwards Accepted before written = written
 afterwards (Refused r) before written = before
 
--- ---- the answers and the list afterwards
--- open: 15 by the length alone, 1 to 7
-unfoldable pub openAnswer : List ℕ → List ℕ → Outcome
-openAnswer b sheet = firstRefusal ((wrongSize b ⇒ BadYearBook) ∷ sheetRules 32 sheet)
+-- ---- the answers and the lists afterwards
+-- open: 15 by the length alone, 1 to 7, 19 by the length alone
+unfoldable pub openAnswer : Lent → List ℕ → Outcome
+openAnswer l sheet = firstRefusal ((wrongSize (l .book) ⇒ BadYearBook) ∷ (sheetRules 32 sheet ++ (wrongSums (l .sums) ⇒ BadYearSums) ∷ []))
 
-unfoldable pub bookOpened : List ℕ → List ℕ → List ℕ
-bookOpened b sheet = afterwards (openAnswer b sheet) b (freshBook sheet)
+unfoldable pub opened : Lent → List ℕ → Lent
+opened l sheet = afterwards (openAnswer l sheet) l (lent (freshBook sheet) zeroSums)
 
--- post: 17 when the month stands
-unfoldable pub postAnswer : List ℕ → List ℕ → Outcome
-postAnswer b sheet = firstRefusal (sheetCallRules b sheet (marked b (placeOfMonth sheet)))
+-- post and replace: 15, 1 to 12, 16, 17, 19; the sums lose an old block and gain the sheet's
+unfoldable pub sheetCallRules : Lent → (sheet : List ℕ) → (wrongMonth : Bool) → (old : List ℕ) → List Rule
+sheetCallRules l sheet wrongMonth old =
+    (badBook (l .book) ⇒ BadYearBook)
+    ∷ (settleRules sheet
+    ++ (otherBuilding (l .book) (sheetOf sheet) ⇒ OtherBuilding) ∷ (wrongMonth ⇒ MonthState) ∷ (badSums (l .sums) old (blockOf sheet) ⇒ BadYearSums) ∷ [])
 
-unfoldable pub bookPosted : List ℕ → List ℕ → List ℕ
-bookPosted b sheet = afterwards (postAnswer b sheet) b (putSheet b sheet)
+-- the month holds the sheet, and so do the sums
+unfoldable pub withSheet : Lent → (sheet old : List ℕ) → Lent
+withSheet l sheet old = lent (putSheet (l .book) sheet) (updated (l .sums) old (blockOf sheet))
 
--- replace: 17 when it doesn't
-unfoldable pub replaceAnswer : List ℕ → List ℕ → Outcome
-replaceAnswer b sheet = firstRefusal (sheetCallRules b sheet (not (marked b (placeOfMonth sheet))))
+-- post: 17 when the month stands; nothing is taken off the sums
+unfoldable pub postAnswer : Lent → List ℕ → Outcome
+postAnswer l sheet = firstRefusal (sheetCallRules l sheet (marked (l .book) (placeOfMonth sheet)) zeroBlock)
 
-unfoldable pub bookReplaced : List ℕ → List ℕ → List ℕ
-bookReplaced b sheet = afterwards (replaceAnswer b sheet) b (putSheet b sheet)
+unfoldable pub posted : Lent → List ℕ → Lent
+posted l sheet = afterwards (postAnswer l sheet) l (withSheet l sheet zeroBlock)
 
--- withdraw: 15; 17 when the month isn't 1–12 or doesn't stand
-unfoldable pub withdrawAnswer : List ℕ → ℕ → Outcome
-withdrawAnswer b month =
-    firstRefusal ((badBook b ⇒ BadYearBook) ∷ (ltb month 1 ⇒ MonthState) ∷ (ltb 12 month ⇒ MonthState) ∷ (not (marked b (month - 1)) ⇒ MonthState) ∷ [])
+-- replace: 17 when it doesn't; the month's block is taken off
+unfoldable pub replaceAnswer : Lent → List ℕ → Outcome
+replaceAnswer l sheet = firstRefusal (sheetCallRules l sheet (not (marked (l .book) (placeOfMonth sheet))) (blockIn (l .book) (placeOfMonth sheet)))
 
-unfoldable pub bookWithdrawn : List ℕ → ℕ → List ℕ
-bookWithdrawn b month = afterwards (withdrawAnswer b month) b (clearMonth b month)
+unfoldable pub replaced : Lent → List ℕ → Lent
+replaced l sheet = afterwards (replaceAnswer l sheet) l (withSheet l sheet (blockIn (l .book) (placeOfMonth sheet)))
 
--- year: 15, 18; changes nothing
-unfoldable pub yearRules : List ℕ → ℕ → List Rule
-yearRules b place = (badBook b ⇒ BadYearBook) ∷ (not (ltb place (unitCountIn b)) ⇒ NoSuchUnit) ∷ []
+-- withdraw: 15; 17 when the month isn't 1–12 or doesn't stand; 19; the month's block is taken off, nothing added
+unfoldable pub withdrawAnswer : Lent → ℕ → Outcome
+withdrawAnswer l month =
+    firstRefusal
+    ((badBook (l .book) ⇒ BadYearBook)
+    ∷ (ltb month 1 ⇒ MonthState)
+    ∷ (ltb 12 month ⇒ MonthState)
+    ∷ (not (marked (l .book) (month - 1)) ⇒ MonthState)
+    ∷ (badSums (l .sums) (blockIn (l .book) (month - 1)) zeroBlock ⇒ BadYearSums)
+    ∷ [])
 
-unfoldable pub yearOutcome : List ℕ → ℕ → Outcome
-yearOutcome b place = firstRefusal (yearRules b place)
+unfoldable pub withdrawn : Lent → ℕ → Lent
+withdrawn l month =
+    afterwards (withdrawAnswer l month) l (lent (clearMonth (l .book) month) (updated (l .sums) (blockIn (l .book) (month - 1)) zeroBlock))
+
+-- year: 15, 18, 19 by the length alone; changes nothing
+unfoldable pub yearRules : Lent → ℕ → List Rule
+yearRules l place =
+    (badBook (l .book) ⇒ BadYearBook) ∷ (not (ltb place (unitCountIn (l .book))) ⇒ NoSuchUnit) ∷ (wrongSums (l .sums) ⇒ BadYearSums) ∷ []
+
+unfoldable pub yearOutcome : Lent → ℕ → Outcome
+yearOutcome l place = firstRefusal (yearRules l place)
 
 -- a number of a month by its mark
 abbrev pub ifMarked : (mark x : ℕ) → ℕ
@@ -150,42 +184,39 @@ ifMarked mark x = if eqb mark 1 then x else 0
 unfoldable pub marksIn : List ℕ → ℕ
 marksIn b = sumTo 12 (λ i. ifMarked (getD b (markAt i) 0) 1)
 
--- one number of the blocks, summed over those months
-unfoldable pub blockSum : List ℕ → ℕ → ℕ
-blockSum b at = sumTo 12 (λ i. ifMarked (getD b (markAt i) 0) (getD b (blockAt i + at) 0))
-
--- the eight sums of the unit at a place
-unfoldable pub yearSums : List ℕ → ℕ → List ℕ
-yearSums b place = map (λ j. blockSum b (8 * place + j)) eight
+-- the eight sums of the unit at a place, as the list has them
+unfoldable pub sumsAt : (sums : List ℕ) (place : ℕ) → List ℕ
+sumsAt sums place = map (λ j. getD sums (8 * place + j) 0) eight
 
 abbrev pub yearReply : Outcome → (k : ℕ) → (sums : List ℕ) → Reply
 yearReply Accepted k sums = totals k sums
 yearReply (Refused r) k sums = refused r
 
-unfoldable pub yearAnswer : List ℕ → ℕ → Reply
-yearAnswer b place = yearReply (yearOutcome b place) (marksIn b) (yearSums b place)
+-- the sums are read, not added
+unfoldable pub yearAnswer : Lent → ℕ → Reply
+yearAnswer l place = yearReply (yearOutcome l place) (marksIn (l .book)) (sumsAt (l .sums) place)
 
 -- ---- any call
-unfoldable pub lentReply : List ℕ → Call → Reply
-lentReply b (post sheet) = replyOf (postAnswer b sheet)
-lentReply b (replace sheet) = replyOf (replaceAnswer b sheet)
-lentReply b (withdraw month) = replyOf (withdrawAnswer b month)
-lentReply b (year place) = yearAnswer b place
+unfoldable pub lentReply : Lent → Call → Reply
+lentReply l (post sheet) = replyOf (postAnswer l sheet)
+lentReply l (replace sheet) = replyOf (replaceAnswer l sheet)
+lentReply l (withdraw month) = replyOf (withdrawAnswer l month)
+lentReply l (year place) = yearAnswer l place
 
-unfoldable pub lentAfter : List ℕ → Call → List ℕ
-lentAfter b (post sheet) = bookPosted b sheet
-lentAfter b (replace sheet) = bookReplaced b sheet
-lentAfter b (withdraw month) = bookWithdrawn b month
-lentAfter b (year place) = b
+unfoldable pub lentAfter : Lent → Call → Lent
+lentAfter l (post sheet) = posted l sheet
+lentAfter l (replace sheet) = replaced l sheet
+lentAfter l (withdraw month) = withdrawn l month
+lentAfter l (year place) = l
 
--- ---- what the contract of a call says: its answer, and the list that it leaves
-pub record Opens (before sheet : List ℕ) (o : Outcome) (b : List ℕ) : Type 0 where
+-- ---- what the contract of a call says: its answer, and the lists that it leaves
+pub record Opens (before : Lent) (sheet : List ℕ) (o : Outcome) (l : Lent) : Type 0 where
   pub answer : o ≡ openAnswer before sheet
-  pub after : b ≡ bookOpened before sheet
+  pub after : l ≡ opened before sheet
 
-pub record Answered (b : List ℕ) (c : Call) (r : Reply) (b′ : List ℕ) : Type 0 where
-  pub reply : r ≡ lentReply b c
-  pub after : b′ ≡ lentAfter b c
+pub record Answered (l : Lent) (c : Call) (r : Reply) (l′ : Lent) : Type 0 where
+  pub reply : r ≡ lentReply l c
+  pub after : l′ ≡ lentAfter l c
 
 -- the year call's reply by value, k and all sums 0 where it is refused
 abbrev pub toReply : YearTotals → Reply
@@ -198,6 +229,6 @@ abbrev pub totalsBy : Outcome → (k : ℕ) → (sums : List ℕ) → YearTotals
 totalsBy Accepted k sums = record { outcome = Accepted; k = k; sums = sums }
 totalsBy (Refused r) k sums = refusedTotals r
 
-pub record Tells (b : List ℕ) (place : ℕ) (t : YearTotals) : Type 0 where
-  pub answered : Answered b (year place) (toReply t) b
-  pub whole : t ≡ totalsBy (yearOutcome b place) (marksIn b) (yearSums b place)
+pub record Tells (l : Lent) (place : ℕ) (t : YearTotals) : Type 0 where
+  pub answered : Answered l (year place) (toReply t) l
+  pub whole : t ≡ totalsBy (yearOutcome l place) (marksIn (l .book)) (sumsAt (l .sums) place)

@@ -1,11 +1,11 @@
-// Post and replace: a settled sheet into its month.
+// Post and replace: a settled sheet into its month, and its block into the sums.
 ghost use mathlib.Core.Path.{_≡_};
 ghost use mathlib.Core.List.{map};
 ghost use lib.ListN.{length, take, drop};
 ghost use Rattle.sheet.specs.Layout.{sheetOf};
 ghost use Rattle.sheet.specs.Check.{sameList};
 ghost use Rattle.yearbook.specs.Calls.{replyOf};
-ghost use Rattle.yearbook.specs.LentBook.{bookLength, idsAt, otherBuilding, Answered};
+ghost use Rattle.yearbook.specs.LentBook.{lent, bookLength, idsAt, otherBuilding, Answered};
 ghost use Rattle.yearbook.specs.Inner.Rows.{HoldsRows};
 ghost use Rattle.yearbook.specs.Inner.Bring.{bringCall, wrongMark, Passed, Brings};
 use crate::layout;
@@ -52,17 +52,27 @@ fn wrong_mark(replacing: bool, mark: u32) -> bool
     mark == 1
 }
 
-// A sheet that settles to the block: 16, 17, then the write.
-fn enter(book: &mut [u32], sheet: &[u8], replacing: bool, block: &[u32]) -> Outcome
+// A sheet that settles to the block: 16, 17, 19, then the write.
+fn enter(
+    book: &mut [u32],
+    sums: &mut [u64],
+    sheet: &[u8],
+    replacing: bool,
+    block: &[u32],
+) -> Outcome
     requires { ⌜ Brings (now book) (now sheet) (now block) ⌝ }
-    ensures { λ r. ⌜ Answered (now (book .entry)) (bringCall replacing (now (sheet .entry))) (replyOf r) (now (book .exit)) ⌝ }
+    ensures { λ r. ⌜ Answered (lent (now (book .entry)) (now (sums .entry))) (bringCall replacing (now (sheet .entry))) (replyOf r) (lent (now (book .exit)) (now (sums .exit))) ⌝ }
 {
-    if other_building(book, sheet, header::header_field(sheet, header::UNIT_COUNT)) {
+    let n = header::header_field(sheet, header::UNIT_COUNT);
+    if other_building(book, sheet, n) {
         return Outcome::Refused(Refusal::OtherBuilding);
     }
     let i = header::header_field(sheet, header::MONTH) as usize - 1;
     if wrong_mark(replacing, book[layout::MARKS + i]) {
         return Outcome::Refused(Refusal::MonthState);
+    }
+    if !months::update_sums(book, sums, i, replacing, block, n as usize) {
+        return Outcome::Refused(Refusal::BadYearSums);
     }
     let meter = header::header_field(sheet, header::SHARED_METER);
     let bill = settlement::bill_cents(sheet) as u32;
@@ -70,10 +80,10 @@ fn enter(book: &mut [u32], sheet: &[u8], replacing: bool, block: &[u32]) -> Outc
     Outcome::Accepted
 }
 
-// 8 to 12, then 16 and 17. The block is on the stack, so that no refusal writes to the book.
-fn settle_into(book: &mut [u32], sheet: &[u8], replacing: bool) -> Outcome
+// 8 to 12, then 16, 17 and 19. The block is on the stack, so that no refusal writes to the book.
+fn settle_into(book: &mut [u32], sums: &mut [u64], sheet: &[u8], replacing: bool) -> Outcome
     requires { ⌜ Passed (now book) (now sheet) ⌝ }
-    ensures { λ r. ⌜ Answered (now (book .entry)) (bringCall replacing (now (sheet .entry))) (replyOf r) (now (book .exit)) ⌝ }
+    ensures { λ r. ⌜ Answered (lent (now (book .entry)) (now (sums .entry))) (bringCall replacing (now (sheet .entry))) (replyOf r) (lent (now (book .exit)) (now (sums .exit))) ⌝ }
 {
     let n = header::header_field(sheet, header::UNIT_COUNT) as usize;
     let mut block = [0u32; layout::BLOCK_LENGTH];
@@ -81,12 +91,12 @@ fn settle_into(book: &mut [u32], sheet: &[u8], replacing: bool) -> Outcome
     let Outcome::Accepted = outcome else {
         return outcome;
     };
-    enter(book, sheet, replacing, &block)
+    enter(book, sums, sheet, replacing, &block)
 }
 
-// 15, 1 to 12, then 16 and 17.
-fn bring(book: &mut [u32], sheet: &[u8], replacing: bool) -> Outcome
-    ensures { λ r. ⌜ Answered (now (book .entry)) (bringCall replacing (now (sheet .entry))) (replyOf r) (now (book .exit)) ⌝ }
+// 15, 1 to 12, then 16, 17 and 19.
+fn bring(book: &mut [u32], sums: &mut [u64], sheet: &[u8], replacing: bool) -> Outcome
+    ensures { λ r. ⌜ Answered (lent (now (book .entry)) (now (sums .entry))) (bringCall replacing (now (sheet .entry))) (replyOf r) (lent (now (book .exit)) (now (sums .exit))) ⌝ }
 {
     if layout::bad_book(book) {
         return Outcome::Refused(Refusal::BadYearBook);
@@ -95,17 +105,17 @@ fn bring(book: &mut [u32], sheet: &[u8], replacing: bool) -> Outcome
     let Outcome::Accepted = outcome else {
         return outcome;
     };
-    settle_into(book, sheet, replacing)
+    settle_into(book, sums, sheet, replacing)
 }
 
-pub fn post(book: &mut [u32], sheet: &[u8]) -> Outcome
-    ensures { λ r. ⌜ Answered (now (book .entry)) (Rattle.yearbook.specs.Calls.post (now (sheet .entry))) (replyOf r) (now (book .exit)) ⌝ }
+pub fn post(book: &mut [u32], sums: &mut [u64], sheet: &[u8]) -> Outcome
+    ensures { λ r. ⌜ Answered (lent (now (book .entry)) (now (sums .entry))) (Rattle.yearbook.specs.Calls.post (now (sheet .entry))) (replyOf r) (lent (now (book .exit)) (now (sums .exit))) ⌝ }
 {
-    bring(book, sheet, false)
+    bring(book, sums, sheet, false)
 }
 
-pub fn replace(book: &mut [u32], sheet: &[u8]) -> Outcome
-    ensures { λ r. ⌜ Answered (now (book .entry)) (Rattle.yearbook.specs.Calls.replace (now (sheet .entry))) (replyOf r) (now (book .exit)) ⌝ }
+pub fn replace(book: &mut [u32], sums: &mut [u64], sheet: &[u8]) -> Outcome
+    ensures { λ r. ⌜ Answered (lent (now (book .entry)) (now (sums .entry))) (Rattle.yearbook.specs.Calls.replace (now (sheet .entry))) (replyOf r) (lent (now (book .exit)) (now (sums .exit))) ⌝ }
 {
-    bring(book, sheet, true)
+    bring(book, sums, sheet, true)
 }

@@ -1,4 +1,4 @@
-// The year book (document 01, "Year book").
+// The year book (document 01, "Year book"), with the year sums beside it (2026-02).
 mod bring;
 mod layout;
 mod months;

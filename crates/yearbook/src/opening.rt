@@ -1,7 +1,7 @@
-// Opening: n and ids of a sheet, all else 0.
+// Opening: n and ids of a sheet, all else 0, and sums of 0.
 ghost use mathlib.Core.Path.{_≡_};
 ghost use lib.ListN.{length};
-ghost use Rattle.yearbook.specs.LentBook.{bookLength, zeroBook, freshBook, Opens};
+ghost use Rattle.yearbook.specs.LentBook.{lent, bookLength, zeroBook, freshBook, Opens};
 ghost use Rattle.yearbook.specs.Inner.Rows.{HoldsRows};
 use crate::layout;
 use sheet::Outcome;
@@ -29,9 +29,9 @@ fn start(book: &mut [u32], sheet: &[u8], n: usize)
     }
 }
 
-// 15 by the length alone, then 1 to 7.
-pub fn open(book: &mut [u32], sheet: &[u8]) -> Outcome
-    ensures { λ r. ⌜ Opens (now (book .entry)) (now (sheet .entry)) r (now (book .exit)) ⌝ }
+// 15 by the length alone, then 1 to 7, then 19 by the length alone.
+pub fn open(book: &mut [u32], sums: &mut [u64], sheet: &[u8]) -> Outcome
+    ensures { λ r. ⌜ Opens (lent (now (book .entry)) (now (sums .entry))) (now (sheet .entry)) r (lent (now (book .exit)) (now (sums .exit))) ⌝ }
 {
     if book.len() != layout::BOOK_LENGTH {
         return Outcome::Refused(Refusal::BadYearBook);
@@ -40,10 +40,14 @@ pub fn open(book: &mut [u32], sheet: &[u8]) -> Outcome
     let Outcome::Accepted = outcome else {
         return outcome;
     };
+    if sums.len() != layout::BLOCK_LENGTH {
+        return Outcome::Refused(Refusal::BadYearSums);
+    }
     start(
         book,
         sheet,
         header::header_field(sheet, header::UNIT_COUNT) as usize,
     );
+    year_sums::clear(sums);
     Outcome::Accepted
 }

@@ -1,8 +1,9 @@
-// Year: k and a unit's eight sums over the months that stand.
+// Year: k, counted from the marks, and a unit's eight sums, read from the list beside the book.
 ghost use mathlib.Core.Path.{_≡_};
 ghost use Prim.Native.Nat.{_≤_, _<_};
 ghost use lib.ListN.{length};
-ghost use Rattle.yearbook.specs.LentBook.{bookLength, blockLength, ifMarked, marksIn, blockSum, yearSums, refusedTotals, Tells};
+ghost use Rattle.year_sums.specs.YearSums.{sumsLength};
+ghost use Rattle.yearbook.specs.LentBook.{lent, bookLength, ifMarked, marksIn, sumsAt, refusedTotals, Tells};
 use crate::layout;
 use sheet::Outcome;
 use sheet::Refusal;
@@ -16,7 +17,7 @@ pub struct YearTotals {
 
 // A number of a month that stands, else 0.
 fn if_marked(mark: u32, x: u32) -> u32
-    ensures { λ r. ⌜ (r ≡ ifMarked mark x) × (r ≤ x) × (r < 4294967296) ⌝ }
+    ensures { λ r. ⌜ (r ≡ ifMarked mark x) × (r ≤ x) ⌝ }
 {
     if mark == 1 { x } else { 0 }
 }
@@ -32,36 +33,16 @@ fn marks_in(book: &[u32]) -> u32
     k
 }
 
-// One number of the blocks, summed over the months that stand.
-fn block_sum(book: &[u32], at: usize) -> u64
-    requires { ⌜ (length (now book) ≡ bookLength) × (at < blockLength) ⌝ }
-    ensures { λ r. ⌜ r ≡ blockSum (now (book .entry)) at ⌝ }
+// The eight sums of the unit at a place.
+fn unit_sums(sums: &[u64], place: usize) -> [u64; 8]
+    requires { ⌜ (length (now sums) ≡ sumsLength) × (place < 160) ⌝ }
+    ensures { λ r. ⌜ r ≡ sumsAt (now (sums .entry)) place ⌝ }
 {
-    let mut sum: u64 = 0;
-    for i in 0..layout::MONTHS {
-        sum += if_marked(
-            book[layout::MARKS + i],
-            book[layout::BLOCKS + layout::BLOCK_LENGTH * i + at],
-        ) as u64;
+    let mut unit = [0u64; 8];
+    for j in 0..8usize {
+        unit[j] = sums[8 * place + j];
     }
-    sum
-}
-
-fn unit_sums(book: &[u32], place: usize) -> [u64; 8]
-    requires { ⌜ (length (now book) ≡ bookLength) × (place < 160) ⌝ }
-    ensures { λ r. ⌜ r ≡ yearSums (now (book .entry)) place ⌝ }
-{
-    let at = 8 * place;
-    [
-        block_sum(book, at),
-        block_sum(book, at + 1),
-        block_sum(book, at + 2),
-        block_sum(book, at + 3),
-        block_sum(book, at + 4),
-        block_sum(book, at + 5),
-        block_sum(book, at + 6),
-        block_sum(book, at + 7),
-    ]
+    unit
 }
 
 fn refused(r: Refusal) -> YearTotals
@@ -74,9 +55,9 @@ fn refused(r: Refusal) -> YearTotals
     }
 }
 
-// 15, 18.
-pub fn year(book: &[u32], place: u32) -> YearTotals
-    ensures { λ t. ⌜ Tells (now (book .entry)) place t ⌝ }
+// 15, 18, 19. The sums are read, no block is added.
+pub fn year(book: &[u32], sums: &[u64], place: u32) -> YearTotals
+    ensures { λ t. ⌜ Tells (lent (now (book .entry)) (now (sums .entry))) place t ⌝ }
 {
     if layout::bad_book(book) {
         return refused(Refusal::BadYearBook);
@@ -84,9 +65,12 @@ pub fn year(book: &[u32], place: u32) -> YearTotals
     if place >= book[layout::UNIT_COUNT] {
         return refused(Refusal::NoSuchUnit);
     }
+    if sums.len() != layout::BLOCK_LENGTH {
+        return refused(Refusal::BadYearSums);
+    }
     YearTotals {
         outcome: Outcome::Accepted,
         k: marks_in(book),
-        sums: unit_sums(book, place as usize),
+        sums: unit_sums(sums, place as usize),
     }
 }

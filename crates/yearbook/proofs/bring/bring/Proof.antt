@@ -11,7 +11,7 @@ same-length : tie.Need-same-length
 same-length c = search needs
 
 returns : tie.Need-returns
-returns c = let a = c .before .before .before .before .before .args in bring-15 (a .replacing) (a .book .now) (a .sheet .now) (sym (c .before .bad-book .ensures) ∙ c .if1 .taken)
+returns c = let a = c .before .before .before .before .before .before .args in bring-15 (a .replacing) _ (a .sheet .now) (sym (c .before .bad-book .ensures) ∙ c .if1 .taken)
 
 check-sheet-requires : tie.Need-check-sheet-requires
 check-sheet-requires c κs = search needs
@@ -27,16 +27,19 @@ same-length-2 c = search needs
 
 returns-2 : tie.Need-returns-2
 returns-2 c =
-    let one = c .before .before .before in let a = c .before .before .before .before .before .before .before .before .args in let e = c .enum-told2 .given .1 in
-    rw e (bring-unchecked (a .replacing) (a .book .now) (a .sheet .now) (sym (one .before .bad-book .ensures) ∙ one .if1 .left) _ (sym (c .before .before .check-sheet .ensures) ∙ e))
+    let one = c .before .before .before in let a = c .before .before .before .before .before .before .before .before .before .args in let e = c .enum-told2 .given .1 in
+    rw e (bring-unchecked (a .replacing) _ (a .sheet .now) (sym (one .before .bad-book .ensures) ∙ one .if1 .left) _ (sym (c .before .before .check-sheet .ensures) ∙ e))
 
 settle-into-requires : tie.Need-settle-into-requires
 settle-into-requires c κs =
-    let one = c .before .before .before .before in
-    record { sound = sym (one .before .bad-book .ensures) ∙ one .if1 .left; checked-sheet = sym (c .before .before .before .check-sheet .ensures) ∙ c .before .enum-told .given .1 }
+    let one = c .before .before .before .before .before in
+    record { sound = sym (one .before .bad-book .ensures) ∙ one .if1 .left; checked-sheet = sym (c .before .before .before .before .check-sheet .ensures) ∙ c .before .before .enum-told .given .1 }
 
 same-length-3 : tie.Need-same-length-3
 same-length-3 c = search needs
+
+same-length-4 : tie.Need-same-length-4
+same-length-4 c = search needs
 
 returns-3 : tie.Need-returns-3
 returns-3 c = search needs
@@ -55,4 +58,5 @@ bring-spec =
     returns-2
     settle-into-requires
     same-length-3
+    same-length-4
     returns-3)

@@ -8,7 +8,7 @@ use Rattle.yearbook.proofs.bring.settle_into.Statement.{statement}
 use Rattle.yearbook.proofs.bring.settle_into.Tie as tie
 
 header-field-requires : tie.Need-header-field-requires
-header-field-requires c κs = (omega (arith, fits 32 _ (c .before .before .pre .checked-sheet) .byteCount), omega arith)
+header-field-requires c κs = (omega (arith, fits 32 _ (c .before .before .before .pre .checked-sheet) .byteCount), omega arith)
 
 cast-n : tie.Need-cast-n
 cast-n c = search needs
@@ -17,10 +17,10 @@ mul-block : tie.Need-mul-block
 mul-block c = search needs
 
 array-borrow-prefix-block : tie.Need-array-borrow-prefix-block
-array-borrow-prefix-block c = part-fits (c .before .before .before .pre) _ (c .header-field .ensures)
+array-borrow-prefix-block c = part-fits (c .before .before .before .before .pre) _ (c .header-field .ensures)
 
 slice-aggregate-settle-checked : tie.Need-slice-aggregate-settle-checked
-slice-aggregate-settle-checked c = sym (part-length (c .before .before .before .before .pre) _ (c .before .header-field .ensures))
+slice-aggregate-settle-checked c = sym (part-length (c .before .before .before .before .before .pre) _ (c .before .header-field .ensures))
 
 settle-checked-requires : tie.Need-settle-checked-requires
 settle-checked-requires c κs = search needs
@@ -33,22 +33,25 @@ enum-told-2 c = search needs
 
 returns : tie.Need-returns
 returns c =
-    let s = c .before .before .before .before .before .before .before .before in let settled = c .before .before .before .settle-checked in let e = c .enum-told2 .given .1 in
-    rw e (bring-unsettled (s .args .replacing) (s .args .book .now) (s .args .sheet .now) (s .pre .sound) _ (s .pre .checked-sheet)
+    let s = c .before .before .before .before .before .before .before .before .before in let settled = c .before .before .before .settle-checked in let e = c .enum-told2 .given .1 in
+    rw e (bring-unsettled (s .args .replacing) _ (s .args .sheet .now) (s .pre .sound) _ (s .pre .checked-sheet)
     (part-refused (s .pre) _ (c .before .before .before .before .before .header-field .ensures) _ (settled .ensures .0) _ e))
 
 slice-aggregate-enter : tie.Need-slice-aggregate-enter
 slice-aggregate-enter c =
-    let s = c .before .before .before .before .before .before .before .before .before .before in let settled = c .before .before .before .before .before .settle-checked in
-    sym (brings-block (part-settled (s .pre) _ (c .before .before .before .before .before .before .before .header-field .ensures) _ (settled .ensures .0) (c .before .before .enum-told .given .1) _ (settled .ensures .1)))
+    let s = c .before .before .before .before .before .before .before .before .before .before .before .before in let settled = c .before .before .before .before .before .before .settle-checked in
+    sym (brings-block (part-settled (s .pre) _ (c .before .before .before .before .before .before .before .before .header-field .ensures) _ (settled .ensures .0) (c .before .before .before .enum-told .given .1) _ (settled .ensures .1)))
 
 enter-requires : tie.Need-enter-requires
 enter-requires c κs =
-    let s = c .before .before .before .before .before .before .before .before .before .before in let settled = c .before .before .before .before .before .settle-checked in
-    part-settled (s .pre) _ (c .before .before .before .before .before .before .before .header-field .ensures) _ (settled .ensures .0) (c .before .before .enum-told .given .1) _ (settled .ensures .1)
+    let s = c .before .before .before .before .before .before .before .before .before .before .before .before in let settled = c .before .before .before .before .before .before .settle-checked in
+    part-settled (s .pre) _ (c .before .before .before .before .before .before .before .before .header-field .ensures) _ (settled .ensures .0) (c .before .before .before .enum-told .given .1) _ (settled .ensures .1)
 
 same-length : tie.Need-same-length
 same-length c = search needs
+
+same-length-2 : tie.Need-same-length-2
+same-length-2 c = search needs
 
 returns-2 : tie.Need-returns-2
 returns-2 c = search needs
@@ -69,4 +72,5 @@ settle-into-spec =
     slice-aggregate-enter
     enter-requires
     same-length
+    same-length-2
     returns-2)

@@ -1,79 +1,82 @@
 use borrow.Author.Needs.{needs}
-use native.Mathlib.Nat.{add-zero}
-use Rattle.yearbook.specs.LentBook.{yearSums}
+use mathlib.Core.Path.{_≡_, refl, sym, _∙_}
+use mathlib.Core.List.{map}
+use native.Mathlib.Omega.{arith}
+use native.Mathlib.Decide.{decLt}
+use Prim.Native.Nat.{ℕ, _+_, _*_, _-_, _<_, _≤_}
+use lib.ListN.{length, getD, length-set}
+use lib.Seq.{getD-set-same, getD-set-other, ext-getD}
+use Rattle.yearbook.specs.Calls.{eight}
+use Rattle.yearbook.specs.LentBook.{sumsAt}
+use Rattle.yearbook.proofs.Sums.{eight-at}
 use Rattle.yearbook.proofs.totals.unit_sums.Statement.{statement}
 use Rattle.yearbook.proofs.totals.unit_sums.Tie as tie
 
-mul-at : tie.Need-mul-at
-mul-at c = search needs
+abbrev Inv-loop : tie.InvT-loop
+Inv-loop sums place unit₀ j₀ unit j = (j ≤ 8) × (length unit ≡ 8) × ((x : ℕ) → x < j → getD unit x 0 ≡ getD sums (8 * place + x) 0)
 
-block-sum-requires : tie.Need-block-sum-requires
-block-sum-requires c κs = search needs
+abbrev μ-loop : tie.MeasureT-loop
+μ-loop sums place unit₀ j₀ unit j = 8 - j
 
-add-block-sum : tie.Need-add-block-sum
-add-block-sum c = search needs
+loop-holds : tie.Need-loop-holds Inv-loop μ-loop
+loop-holds c = (omega arith, refl, λ x h. absurd (omega arith))
 
-block-sum-requires-2 : tie.Need-block-sum-requires-2
-block-sum-requires-2 c κs = search needs
+mul-unit : tie.Need-mul-unit Inv-loop μ-loop
+mul-unit c = search needs
 
-add-block-sum-2 : tie.Need-add-block-sum-2
-add-block-sum-2 c = search needs
+add-unit : tie.Need-add-unit Inv-loop μ-loop
+add-unit c = search needs
 
-block-sum-requires-3 : tie.Need-block-sum-requires-3
-block-sum-requires-3 c κs = search needs
+mul-unit-2 : tie.Need-mul-unit-2 Inv-loop μ-loop
+mul-unit-2 c = search needs
 
-add-block-sum-3 : tie.Need-add-block-sum-3
-add-block-sum-3 c = search needs
+shared-slice-read-unit : tie.Need-shared-slice-read-unit Inv-loop μ-loop
+shared-slice-read-unit c = search needs
 
-block-sum-requires-4 : tie.Need-block-sum-requires-4
-block-sum-requires-4 c κs = search needs
+mul-unit-3 : tie.Need-mul-unit-3 Inv-loop μ-loop
+mul-unit-3 c = search needs
 
-add-block-sum-4 : tie.Need-add-block-sum-4
-add-block-sum-4 c = search needs
+array-write-unit : tie.Need-array-write-unit Inv-loop μ-loop
+array-write-unit c = search needs
 
-block-sum-requires-5 : tie.Need-block-sum-requires-5
-block-sum-requires-5 c κs = search needs
+add-j : tie.Need-add-j Inv-loop μ-loop
+add-j c = search needs
 
-add-block-sum-5 : tie.Need-add-block-sum-5
-add-block-sum-5 c = search needs
+loop-less : tie.Need-loop-less Inv-loop μ-loop
+loop-less c = search needs
 
-block-sum-requires-6 : tie.Need-block-sum-requires-6
-block-sum-requires-6 c κs = search needs
+loop-again : tie.Need-loop-again Inv-loop μ-loop
+loop-again c =
+    let inv = c .before .before .loop .inv in let j = c .before .before .loop .j in let unit = c .before .before .loop .unit in (
+      omega arith,
+      rw length-set (inv .1),
+      λ x h. elim (decLt x j) [
+        | yes l ↦ getD-set-other unit j x _ 0 (omega arith) ∙ inv .2 x l
+        | no l ↦ let e : x ≡ j = omega arith in rw e (getD-set-same unit j _ 0 (omega arith))
+      ],
+    )
 
-add-block-sum-6 : tie.Need-add-block-sum-6
-add-block-sum-6 c = search needs
-
-block-sum-requires-7 : tie.Need-block-sum-requires-7
-block-sum-requires-7 c κs = search needs
-
-add-block-sum-7 : tie.Need-add-block-sum-7
-add-block-sum-7 c = search needs
-
-block-sum-requires-8 : tie.Need-block-sum-requires-8
-block-sum-requires-8 c κs = search needs
-
-returns : tie.Need-returns
-unfolding yearSums
-returns c = rw (c .before .before .before .before .before .before .before .block-sum .ensures, c .before .before .before .before .before .before .block-sum2 .ensures, c .before .before .before .before .before .block-sum3 .ensures, c .before .before .before .before .block-sum4 .ensures, c .before .before .before .block-sum5 .ensures, c .before .before .block-sum6 .ensures, c .before .block-sum7 .ensures, c .block-sum8 .ensures, add-zero)
+returns : tie.Need-returns Inv-loop μ-loop
+unfolding sumsAt
+returns c =
+    let inv = c .before .loop .inv in let a = c .before .before .args in
+    let f : ℕ → ℕ = λ j. getD (a .sums .now) (8 * a .place + j) 0 in
+    ext-getD 0 (c .before .loop .unit) (map f eight) (inv .1) (λ x h. inv .2 x (omega arith) ∙ sym (eight-at f x (omega arith)))
 
 pub unit-sums-spec : {M : Type 1} → statement M
 unit-sums-spec =
     tie.close
     (tie.spec
-    mul-at
-    block-sum-requires
-    add-block-sum
-    block-sum-requires-2
-    add-block-sum-2
-    block-sum-requires-3
-    add-block-sum-3
-    block-sum-requires-4
-    add-block-sum-4
-    block-sum-requires-5
-    add-block-sum-5
-    block-sum-requires-6
-    add-block-sum-6
-    block-sum-requires-7
-    add-block-sum-7
-    block-sum-requires-8
+    Inv-loop
+    μ-loop
+    loop-holds
+    mul-unit
+    add-unit
+    mul-unit-2
+    shared-slice-read-unit
+    mul-unit-3
+    array-write-unit
+    add-j
+    loop-less
+    loop-again
     returns)

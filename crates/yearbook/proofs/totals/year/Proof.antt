@@ -4,12 +4,12 @@ use mathlib.Core.Bool.{false}
 use native.Mathlib.Omega.{arith}
 use Rattle.yearbook.specs.LentBook.{badBook}
 use Rattle.yearbook.proofs.Sound.{book-sound}
-use Rattle.yearbook.proofs.Answers.{tells-15, tells-18, tells-totals}
+use Rattle.yearbook.proofs.Answers.{tells-15, tells-18, tells-19, tells-totals}
 use Rattle.yearbook.proofs.totals.year.Statement.{statement}
 use Rattle.yearbook.proofs.totals.year.Tie as tie
 
 -- past 15
-sound : (c : tie.Else1) → badBook (c .before .before .before .args .book .now) ≡ false
+sound : (c : tie.Else1) → badBook (c .before .before .before .before .args .book .now) ≡ false
 sound c = sym (c .before .bad-book .ensures) ∙ c .if1 .left
 
 bad-book-requires : tie.Need-bad-book-requires
@@ -30,14 +30,20 @@ refused-requires-2 c κs = search needs
 returns-2 : tie.Need-returns-2
 returns-2 c = rw (c .refused2 .ensures) (tells-18 _ _ (sound (c .before .before .before)) (c .before .if2 .taken))
 
-marks-in-requires : tie.Need-marks-in-requires
-marks-in-requires c κs = book-sound _ (sound (c .before .before)) .size
-
-unit-sums-requires : tie.Need-unit-sums-requires
-unit-sums-requires c κs = let s = book-sound _ (sound (c .before .before .before)) in (s .size, omega (arith, s .few-units))
+refused-requires-3 : tie.Need-refused-requires-3
+refused-requires-3 c κs = search needs
 
 returns-3 : tie.Need-returns-3
-returns-3 c = rw (c .before .marks-in .ensures, c .unit-sums .ensures) (tells-totals _ _ (sound (c .before .before .before .before)) (c .before .before .if2 .left))
+returns-3 c = rw (c .refused3 .ensures) (tells-19 _ _ (sound (c .before .before .before .before)) (c .before .before .if2 .left) (c .before .if3 .taken))
+
+marks-in-requires : tie.Need-marks-in-requires
+marks-in-requires c κs = book-sound _ (sound (c .before .before .before)) .size
+
+unit-sums-requires : tie.Need-unit-sums-requires
+unit-sums-requires c κs = (c .before .if3 .left, omega (arith, book-sound _ (sound (c .before .before .before .before)) .few-units))
+
+returns-4 : tie.Need-returns-4
+returns-4 c = rw (c .before .marks-in .ensures, c .unit-sums .ensures) (tells-totals _ _ (sound (c .before .before .before .before .before)) (c .before .before .before .if2 .left) (c .before .before .if3 .left))
 
 pub year-spec : {M : Type 1} → statement M
 year-spec =
@@ -49,6 +55,8 @@ year-spec =
     shared-slice-read-if2
     refused-requires-2
     returns-2
+    refused-requires-3
+    returns-3
     marks-in-requires
     unit-sums-requires
-    returns-3)
+    returns-4)

@@ -1,17 +1,27 @@
 use borrow.Author.Needs.{needs}
 use mathlib.Core.Path.{_≡_, refl, sym, _∙_}
-use mathlib.Core.Bool.{false}
+use mathlib.Core.Bool.{true, false}
 use native.Mathlib.Omega.{arith}
-use borrow.Author.Tests.{eq-eqb, ne-eqb}
-use Rattle.yearbook.specs.LentBook.{badBook, clearMonth}
+use Prim.Native.Nat.{_-_}
+use borrow.Author.Tests.{eq-eqb, ne-eqb, not-true, not-false}
+use Rattle.yearbook.specs.LentBook.{badBook, marked, blockLength, clearMonth}
 use Rattle.yearbook.proofs.Sound.{book-sound}
-use Rattle.yearbook.proofs.Answers.{withdraw-15, withdraw-low, withdraw-high, withdraw-17, withdraw-accepted}
+use Rattle.year_sums.proofs.Lists.{zero-at}
+use Rattle.year_sums.proofs.Updating.{update-false, update-true}
+use Rattle.yearbook.proofs.Answers.{withdraw-15, withdraw-low, withdraw-high, withdraw-17, withdraw-19, withdraw-accepted}
 use Rattle.yearbook.proofs.withdrawal.withdraw.Statement.{statement}
 use Rattle.yearbook.proofs.withdrawal.withdraw.Tie as tie
 
 -- past 15
-sound : (c : tie.Else1) → badBook (c .before .before .before .before .args .book .now) ≡ false
+sound : (c : tie.Else1) → badBook (c .before .before .before .before .before .args .book .now) ≡ false
 sound c = sym (c .before .bad-book .ensures) ∙ c .if1 .left
+
+-- past 17
+abbrev start : tie.Else4 → tie.Start
+start c = c .before .before .before .before .before .before .before .before .before
+
+stands : (c : tie.Else4) → marked (start c .args .book .now) (start c .args .month - 1) ≡ true
+stands c = eq-eqb _ 1 (c .if4 .left)
 
 bad-book-requires : tie.Need-bad-book-requires
 bad-book-requires c κs = search needs
@@ -52,21 +62,50 @@ same-length-4 c = search needs
 returns-4 : tie.Need-returns-4
 returns-4 c = withdraw-17 _ _ (sound (c .before .before .before .before)) (omega arith) (omega arith) (ne-eqb _ 1 (c .if4 .taken))
 
-slice-aggregate-put-month : tie.Need-slice-aggregate-put-month
-slice-aggregate-put-month c = search needs
+slice-read-n : tie.Need-slice-read-n
+slice-read-n c = omega (arith, book-sound _ (sound (c .before .before .before .before .before)) .size)
 
-put-month-requires : tie.Need-put-month-requires
-put-month-requires c κs = (book-sound _ (sound (c .before .before .before .before .before .before)) .size, omega arith, refl)
+cast-n : tie.Need-cast-n
+cast-n c = record { fits = omega (arith, book-sound _ (sound (c .before .before .before .before .before)) .few-units) }
+
+slice-aggregate-update-sums : tie.Need-slice-aggregate-update-sums
+slice-aggregate-update-sums c = search needs
+
+update-sums-requires : tie.Need-update-sums-requires
+update-sums-requires c κs =
+    let s = book-sound _ (sound (c .before .before .before .before .before .before .before .before)) in
+    record { size = s .size; low = omega arith; few = s .few-units; full = refl; rest = λ k l. zero-at blockLength k }
 
 same-length-5 : tie.Need-same-length-5
 same-length-5 c = search needs
 
+same-length-6 : tie.Need-same-length-6
+same-length-6 c = search needs
+
 returns-5 : tie.Need-returns-5
-unfolding clearMonth
 returns-5 c =
-    let e4 = c .before .before .before .before .before in
-    rw (c .before .before .put-month .ensures)
-    (withdraw-accepted _ _ (sound (e4 .before .before .before .before)) (omega arith) (omega arith) (eq-eqb _ 1 (e4 .if4 .left)))
+    let four = c .before .before .before .before .before .before .before .before in
+    let f = update-false (c .before .before .before .update-sums .ensures) (not-true _ (c .if5 .taken)) in
+    rw (f .1) (withdraw-19 _ _ (sound (four .before .before .before .before)) (omega arith) (omega arith) (stands four) (f .0))
+
+slice-aggregate-put-month : tie.Need-slice-aggregate-put-month
+slice-aggregate-put-month c = search needs
+
+put-month-requires : tie.Need-put-month-requires
+put-month-requires c κs = (book-sound _ (sound (c .before .before .before .before .before .before .before .before .before .before .before .before .before .before)) .size, omega arith, refl)
+
+same-length-7 : tie.Need-same-length-7
+same-length-7 c = search needs
+
+same-length-8 : tie.Need-same-length-8
+same-length-8 c = search needs
+
+returns-6 : tie.Need-returns-6
+unfolding clearMonth
+returns-6 c =
+    let four = c .before .before .before .before .before .before .before .before .before .before .before .before .before in
+    let t = update-true (c .before .before .before .before .before .before .before .before .update-sums .ensures) (not-false _ (c .before .before .before .before .before .if5 .left)) in
+    rw (c .before .before .put-month .ensures, t .1) (withdraw-accepted _ _ (sound (four .before .before .before .before)) (omega arith) (omega arith) (stands four) (t .0))
 
 pub withdraw-spec : {M : Type 1} → statement M
 withdraw-spec =
@@ -85,7 +124,15 @@ withdraw-spec =
     slice-read-if4
     same-length-4
     returns-4
+    slice-read-n
+    cast-n
+    slice-aggregate-update-sums
+    update-sums-requires
+    same-length-5
+    same-length-6
+    returns-5
     slice-aggregate-put-month
     put-month-requires
-    same-length-5
-    returns-5)
+    same-length-7
+    same-length-8
+    returns-6)
