@@ -1,19 +1,19 @@
 /* Heat cost settlement under the Croatian Regulation NN 140/25: the calls of libheatcost.a, which `rt staticlib
  * heatcost` builds for Linux on x86-64. This header is C99 and C++. docs/FORMAT.md has the layouts of sheet,
- * statement, record, year book and printed text, and for each refusal what to correct; examples/ shows the calls in
- * use.
+ * statement, record, year book, year sums and printed text, and for each refusal what to correct; examples/ shows the
+ * calls in use.
  *
  * n is the number of units behind the shared meter, 1 to HEATCOST_MAX_UNITS: bytes 8 and 9 of a sheet, low byte first.
  * A sheet has a month, but neither year nor building: keep these beside it, for example in a file's name.
  *
  * Lists. A list is a pointer and the count of its elements, which must be there; what they hold is free. The pointer
  * has the alignment of its type; with a count of 0 it isn't used and may be NULL. Lists that a call only writes
- * (statement, record, text, totals, the book at opening) need no values beforehand. The lists of one call must not
- * overlap: a record can't be built in place around its own sheet.
+ * (statement, record, text, totals, book and sums at opening) need no values beforehand. The lists of one call must
+ * not overlap: a record can't be built in place around its own sheet.
  *
  * Answers. A uint64_t is a length. A uint32_t is 0 for accepted, else the refusal's number + 256 * its place: for 6
  * and 7 the row, counted from 0; for all others 0. Refusals are tested in the order that stands with the call, 6 and 7
- * row by row, and the first that holds is the answer. A refused call leaves every list, the book too, as it was.
+ * row by row, and the first that holds is the answer. A refused call leaves every list, book and sums too, as it was.
  * Printing is never refused: a refusal has a text too.
  *
  * Threads. Nothing is kept between calls, and the library has no data that it writes. Calls may run side by side as
@@ -24,7 +24,7 @@
  *
  * Memory. No call uses the heap: memcpy and memset are all that the library needs from outside (`nm -u`). A call takes
  * at most HEATCOST_STACK bytes of stack: settling 18,000; printing, writing or reading a record, posting and replacing
- * 23,100; opening, withdrawing and the year call 200. `compare/run stack` measures this on a painted stack. The
+ * 23,100; withdrawing 5,300; opening and the year call 200. `compare/run stack` measures this on a painted stack. The
  * caller's own frames come on top, and what the system needs: a thread's own block, a first lookup of memcpy or memset.
  */
 #ifndef HEATCOST_H
@@ -34,7 +34,7 @@
 #include <stdint.h>
 
 /* Raised whenever the parameters of a call change; a new call or a new refusal doesn't raise it. */
-#define HEATCOST_INTERFACE 1
+#define HEATCOST_INTERFACE 2
 
 /* Bytes of stack that a call may take. */
 #define HEATCOST_STACK 24576
@@ -47,8 +47,10 @@
 #define HEATCOST_RECORD_LEN(n) (56u + 64u * (n))
 #define HEATCOST_PRINT_LEN(n) (49u + 99u * (n))
 
-/* The numbers of a year book (uint32_t), and those that the year call writes (uint64_t). */
+/* The numbers of a year book (uint32_t), of the sums beside it (uint64_t), and those that the year call writes
+ * (uint64_t). */
 #define HEATCOST_BOOK_LEN 15557
+#define HEATCOST_SUMS_LEN 1280
 #define HEATCOST_TOTALS_LEN 9
 
 /* The two parts of an answer. */
@@ -74,7 +76,8 @@ enum heatcost_number {
     HEATCOST_BAD_YEAR_BOOK = 15,
     HEATCOST_OTHER_BUILDING = 16,
     HEATCOST_MONTH_STATE = 17,
-    HEATCOST_NO_SUCH_UNIT = 18
+    HEATCOST_NO_SUCH_UNIT = 18,
+    HEATCOST_BAD_YEAR_SUMS = 19
 };
 
 /* One line of text for a number, or for a whole answer. */
@@ -119,6 +122,8 @@ static inline const char *heatcost_text(uint32_t number)
         return "the month stands already (post), doesn't stand (replace, withdraw), or isn't 1 to 12";
     case HEATCOST_NO_SUCH_UNIT:
         return "the book has no unit at that place";
+    case HEATCOST_BAD_YEAR_SUMS:
+        return "not the book's sums: not 1,280 numbers, or one would go below 0 or past 64 bits";
     default:
         return "no such number";
     }
@@ -152,24 +157,37 @@ uint32_t heatcost_read_record(const uint8_t *record, size_t record_len);
  * check. */
 uint64_t heatcost_record_sheet_len(const uint8_t *record, size_t record_len);
 
-/* The year book is a list of HEATCOST_BOOK_LEN numbers that the caller keeps. Each call gets it as the last one left
- * it, and nobody else writes it meanwhile. 15 refuses another length; except at opening, also a book whose number 0,
- * its n, is over 160 or whose numbers 1 to 12, the months' marks, are not all 0 or 1. Nothing else in it is tested. */
+/* The year book is a list of HEATCOST_BOOK_LEN numbers that the caller keeps, and with it a list of HEATCOST_SUMS_LEN
+ * sums: number 8 * place + j is the j-th of the eight sums, over the months that stand, of the unit at that place. Each
+ * call gets both as the last one left them, and nobody else writes them meanwhile; a book has sums of its own.
+ *
+ * 15 refuses a book of another length; except at opening, also one whose number 0, its n, is over 160 or whose numbers
+ * 1 to 12, the months' marks, are not all 0 or 1. Nothing else in it is tested.
+ *
+ * Posting adds the month's numbers to the sums; withdrawing takes off all that the book holds for the month; replacing
+ * takes off, then adds. 19 refuses sums of another length, and sums of which one would go below 0, before anything is
+ * added, or past 64 bits: they aren't this book's. From an opening on that never arises. No call compares book and
+ * sums, so that sums of another book need not be found. */
 
-/* Opens a book with the n and ids of a sheet and erases all that it held. No month stands afterwards, not the sheet's
- * either. Refusals 15, 1 to 7. */
-uint32_t heatcost_open(uint32_t *book, size_t book_len, const uint8_t *sheet, size_t sheet_len);
+/* Opens a book with the n and ids of a sheet and erases all that it held; all sums are 0. No month stands afterwards,
+ * not the sheet's either. Refusals 15, 1 to 7, then 19 for another sums_len. */
+uint32_t heatcost_open(uint32_t *book, size_t book_len, uint64_t *sums, size_t sums_len, const uint8_t *sheet,
+                       size_t sheet_len);
 
-/* Posts a sheet's month, which must not stand yet; replaces one that stands. Refusals 15, 1 to 12, 16, 17. */
-uint32_t heatcost_post(uint32_t *book, size_t book_len, const uint8_t *sheet, size_t sheet_len);
-uint32_t heatcost_replace(uint32_t *book, size_t book_len, const uint8_t *sheet, size_t sheet_len);
+/* Posts a sheet's month, which must not stand yet; replaces one that stands. Refusals 15, 1 to 12, 16, 17, 19. */
+uint32_t heatcost_post(uint32_t *book, size_t book_len, uint64_t *sums, size_t sums_len, const uint8_t *sheet,
+                       size_t sheet_len);
+uint32_t heatcost_replace(uint32_t *book, size_t book_len, uint64_t *sums, size_t sums_len, const uint8_t *sheet,
+                          size_t sheet_len);
 
-/* Withdraws a month, 1 to 12, that stands. Refusals 15, 17. */
-uint32_t heatcost_withdraw(uint32_t *book, size_t book_len, uint32_t month);
+/* Withdraws a month, 1 to 12, that stands. Refusals 15, 17, 19. */
+uint32_t heatcost_withdraw(uint32_t *book, size_t book_len, uint64_t *sums, size_t sums_len, uint32_t month);
 
-/* Writes HEATCOST_TOTALS_LEN numbers for the unit at a place from 0: how many months stand, then its four sums of Wh
- * and four of cents over them. Refusals 15, then 13 for another totals_len, then 18. */
-uint32_t heatcost_year(const uint32_t *book, size_t book_len, uint32_t place, uint64_t *totals, size_t totals_len);
+/* Writes HEATCOST_TOTALS_LEN numbers for the unit at a place from 0: how many months stand, by the book, then its four
+ * sums of Wh and four of cents, as the list of sums has them. Refusals 15, then 13 for another totals_len, then 18,
+ * then 19 for another sums_len. */
+uint32_t heatcost_year(const uint32_t *book, size_t book_len, const uint64_t *sums, size_t sums_len, uint32_t place,
+                       uint64_t *totals, size_t totals_len);
 
 #ifdef __cplusplus
 }

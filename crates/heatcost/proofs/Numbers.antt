@@ -1,11 +1,11 @@
--- A refusal's number is at most 18. Assumes nothing.
+-- A refusal's number is at most 19. Assumes nothing.
 use Prim.Native.Nat.{_≤_}
 use native.Mathlib.Omega.{arith}
 use Rattle.sheet.specs.declared.refusal.Refusal.{Refusal}
-use Rattle.sheet.specs.declared.refusal.Refusal.the-variants.{TooShort, BadMagic, UnsupportedVersion, HeaderField, WrongLength, RowField, IdOrder, HotWaterExceedsMeter, ZeroDivisor, NoReadings, MetersExceedHeat, UnmeteredExceedsHeat, BufferLength, BadArchive, BadYearBook, OtherBuilding, MonthState, NoSuchUnit}
+use Rattle.sheet.specs.declared.refusal.Refusal.the-variants.{TooShort, BadMagic, UnsupportedVersion, HeaderField, WrongLength, RowField, IdOrder, HotWaterExceedsMeter, ZeroDivisor, NoReadings, MetersExceedHeat, UnmeteredExceedsHeat, BufferLength, BadArchive, BadYearBook, OtherBuilding, MonthState, NoSuchUnit, BadYearSums}
 use Rattle.sheet.specs.Refusals.{numberOf}
 
-pub number-le : (r : Refusal) → numberOf r ≤ 18
+pub number-le : (r : Refusal) → numberOf r ≤ 19
 number-le TooShort = omega arith
 number-le BadMagic = omega arith
 number-le UnsupportedVersion = omega arith
@@ -24,3 +24,4 @@ number-le BadYearBook = omega arith
 number-le OtherBuilding = omega arith
 number-le MonthState = omega arith
 number-le NoSuchUnit = omega arith
+number-le BadYearSums = omega arith

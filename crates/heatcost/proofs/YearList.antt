@@ -17,7 +17,7 @@ use Rattle.sheet.specs.Refusals.{firstRefusal}
 use Rattle.sheet.specs.Inner.Places.{PlaceBelow}
 use Rattle.month.proofs.Lists.{decided}
 use Rattle.yearbook.specs.declared.totals.YearTotals.{YearTotals}
-use Rattle.yearbook.specs.LentBook.{badBook, yearRules, yearOutcome, marksIn, yearSums, totalsBy}
+use Rattle.yearbook.specs.LentBook.{Lent, badBook, yearRules, yearOutcome, marksIn, sumsAt, totalsBy}
 use Rattle.yearbook.proofs.Places.{year-place}
 use Rattle.heatcost.specs.Year.{yearListAnswer, yearListAfter}
 
@@ -25,39 +25,39 @@ outcome-kept : (o : Outcome) (k : ℕ) (sums : List ℕ) → totalsBy o k sums .
 outcome-kept Accepted k sums = refl
 outcome-kept (Refused r) k sums = refl
 
-module _ (book : List ℕ) (place : ℕ) (list : List ℕ) (t : YearTotals) (whole : t ≡ totalsBy (yearOutcome book place) (marksIn book) (yearSums book place)) where
-  same-outcome : t .outcome ≡ yearOutcome book place
-  same-outcome = ap (λ (x : YearTotals). x .outcome) whole ∙ outcome-kept (yearOutcome book place) (marksIn book) (yearSums book place)
+module _ (l : Lent) (place : ℕ) (list : List ℕ) (t : YearTotals) (whole : t ≡ totalsBy (yearOutcome l place) (marksIn (l .book)) (sumsAt (l .sums) place)) where
+  same-outcome : t .outcome ≡ yearOutcome l place
+  same-outcome = ap (λ (x : YearTotals). x .outcome) whole ∙ outcome-kept (yearOutcome l place) (marksIn (l .book)) (sumsAt (l .sums) place)
 
   pub outcome-place : PlaceBelow 160 (t .outcome)
-  outcome-place = subst (PlaceBelow 160) (sym same-outcome) (year-place book place)
+  outcome-place = subst (PlaceBelow 160) (sym same-outcome) (year-place l place)
 
   module _ (right : length list ≡ 9) where
-    pub same-answer : t .outcome ≡ yearListAnswer book place list
+    pub same-answer : t .outcome ≡ yearListAnswer l place list
     unfolding yearListAnswer yearOutcome yearRules firstRefusal
-    same-answer = same-outcome ∙ elim (decided (badBook book)) [ inl e ↦ rw e refl | inr e ↦ rw (e, eq-eqb (length list) 9 right) refl ]
+    same-answer = same-outcome ∙ elim (decided (badBook (l .book))) [ inl e ↦ rw e refl | inr e ↦ rw (e, eq-eqb (length list) 9 right) refl ]
 
-    pub refused-list : (r : Refusal) → t .outcome ≡ Refused r → list ≡ yearListAfter book place list
+    pub refused-list : (r : Refusal) → t .outcome ≡ Refused r → list ≡ yearListAfter l place list
     unfolding yearListAfter
     refused-list r e =
-        let f : yearListAnswer book place list ≡ Refused r = sym same-answer ∙ e in
+        let f : yearListAnswer l place list ≡ Refused r = sym same-answer ∙ e in
         rw f refl
 
-    pub written-list : t .outcome ≡ Accepted → t .k ∷ t .sums ≡ yearListAfter book place list
+    pub written-list : t .outcome ≡ Accepted → t .k ∷ t .sums ≡ yearListAfter l place list
     unfolding yearListAfter
     written-list e =
-        let f : yearListAnswer book place list ≡ Accepted = sym same-answer ∙ e in
-        let w : t ≡ totalsBy Accepted (marksIn book) (yearSums book place) = whole ∙ ap (λ (o : Outcome). totalsBy o (marksIn book) (yearSums book place)) (sym same-outcome ∙ e) in
+        let f : yearListAnswer l place list ≡ Accepted = sym same-answer ∙ e in
+        let w : t ≡ totalsBy Accepted (marksIn (l .book)) (sumsAt (l .sums) place) = whole ∙ ap (λ (o : Outcome). totalsBy o (marksIn (l .book)) (sumsAt (l .sums) place)) (sym same-outcome ∙ e) in
         let same = ap (λ (x : YearTotals). x .k ∷ x .sums) w in
         rw f same
 
 -- a list of another length: 15, then 13
-module _ (book : List ℕ) (place : ℕ) (list : List ℕ) where
-  pub bad-book : badBook book ≡ true → (Refused BadYearBook ≡ yearListAnswer book place list) × (list ≡ yearListAfter book place list)
+module _ (l : Lent) (place : ℕ) (list : List ℕ) where
+  pub bad-book : badBook (l .book) ≡ true → (Refused BadYearBook ≡ yearListAnswer l place list) × (list ≡ yearListAfter l place list)
   unfolding yearListAnswer yearListAfter firstRefusal
   bad-book e = rw e (refl, refl)
 
-  pub wrong-list : badBook book ≡ false → (length list ≡ 9 → ⊥) → (Refused BufferLength ≡ yearListAnswer book place list) × (list ≡ yearListAfter book place list)
+  pub wrong-list : badBook (l .book) ≡ false → (length list ≡ 9 → ⊥) → (Refused BufferLength ≡ yearListAnswer l place list) × (list ≡ yearListAfter l place list)
   unfolding yearListAnswer yearListAfter firstRefusal
   wrong-list e h = rw (e, ne-eqb (length list) 9 h) (refl, refl)
 

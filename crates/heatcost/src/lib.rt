@@ -10,7 +10,7 @@ ghost use Rattle.settlement.specs.Settle.{settleAnswer, statementAfter};
 ghost use Rattle.archive.specs.Writer.{writeAnswer, recordAfter};
 ghost use Rattle.archive.specs.Reader.{readOutcome, countOf};
 ghost use Rattle.printing.specs.Printed.{printed, longest, atFront};
-ghost use Rattle.yearbook.specs.LentBook.{openAnswer, bookOpened, postAnswer, bookPosted, replaceAnswer, bookReplaced, withdrawAnswer, bookWithdrawn};
+ghost use Rattle.yearbook.specs.LentBook.{lent, openAnswer, opened, postAnswer, posted, replaceAnswer, replaced, withdrawAnswer, withdrawn};
 ghost use Rattle.heatcost.specs.Answer.{answerNumber};
 ghost use Rattle.heatcost.specs.Year.{yearListAnswer, yearListAfter};
 use sheet::Outcome;
@@ -70,37 +70,37 @@ pub extern "C" fn heatcost_print(sheet: &[u8], text: &mut [u8]) -> u64
     printing::print(sheet, text) as u64
 }
 
-// Opens a year book, a list of 15,557 numbers, with a sheet.
+// Opens a year book, a list of 15,557 numbers, and its sums, a list of 1,280, with a sheet.
 #[no_mangle]
-pub extern "C" fn heatcost_open(book: &mut [u32], sheet: &[u8]) -> u32
-    ensures { λ r. ⌜ r ≡ answerNumber (openAnswer (now (book .entry)) (now (sheet .entry))) ⌝ }
-    ensures { λ _. ⌜ now (book .exit) ≡ bookOpened (now (book .entry)) (now (sheet .entry)) ⌝ }
+pub extern "C" fn heatcost_open(book: &mut [u32], sums: &mut [u64], sheet: &[u8]) -> u32
+    ensures { λ r. ⌜ r ≡ answerNumber (openAnswer (lent (now (book .entry)) (now (sums .entry))) (now (sheet .entry))) ⌝ }
+    ensures { λ _. ⌜ lent (now (book .exit)) (now (sums .exit)) ≡ opened (lent (now (book .entry)) (now (sums .entry))) (now (sheet .entry)) ⌝ }
 {
-    answer(yearbook::open(book, sheet))
+    answer(yearbook::open(book, sums, sheet))
 }
 
 #[no_mangle]
-pub extern "C" fn heatcost_post(book: &mut [u32], sheet: &[u8]) -> u32
-    ensures { λ r. ⌜ r ≡ answerNumber (postAnswer (now (book .entry)) (now (sheet .entry))) ⌝ }
-    ensures { λ _. ⌜ now (book .exit) ≡ bookPosted (now (book .entry)) (now (sheet .entry)) ⌝ }
+pub extern "C" fn heatcost_post(book: &mut [u32], sums: &mut [u64], sheet: &[u8]) -> u32
+    ensures { λ r. ⌜ r ≡ answerNumber (postAnswer (lent (now (book .entry)) (now (sums .entry))) (now (sheet .entry))) ⌝ }
+    ensures { λ _. ⌜ lent (now (book .exit)) (now (sums .exit)) ≡ posted (lent (now (book .entry)) (now (sums .entry))) (now (sheet .entry)) ⌝ }
 {
-    answer(yearbook::post(book, sheet))
+    answer(yearbook::post(book, sums, sheet))
 }
 
 #[no_mangle]
-pub extern "C" fn heatcost_replace(book: &mut [u32], sheet: &[u8]) -> u32
-    ensures { λ r. ⌜ r ≡ answerNumber (replaceAnswer (now (book .entry)) (now (sheet .entry))) ⌝ }
-    ensures { λ _. ⌜ now (book .exit) ≡ bookReplaced (now (book .entry)) (now (sheet .entry)) ⌝ }
+pub extern "C" fn heatcost_replace(book: &mut [u32], sums: &mut [u64], sheet: &[u8]) -> u32
+    ensures { λ r. ⌜ r ≡ answerNumber (replaceAnswer (lent (now (book .entry)) (now (sums .entry))) (now (sheet .entry))) ⌝ }
+    ensures { λ _. ⌜ lent (now (book .exit)) (now (sums .exit)) ≡ replaced (lent (now (book .entry)) (now (sums .entry))) (now (sheet .entry)) ⌝ }
 {
-    answer(yearbook::replace(book, sheet))
+    answer(yearbook::replace(book, sums, sheet))
 }
 
 #[no_mangle]
-pub extern "C" fn heatcost_withdraw(book: &mut [u32], month: u32) -> u32
-    ensures { λ r. ⌜ r ≡ answerNumber (withdrawAnswer (now (book .entry)) month) ⌝ }
-    ensures { λ _. ⌜ now (book .exit) ≡ bookWithdrawn (now (book .entry)) month ⌝ }
+pub extern "C" fn heatcost_withdraw(book: &mut [u32], sums: &mut [u64], month: u32) -> u32
+    ensures { λ r. ⌜ r ≡ answerNumber (withdrawAnswer (lent (now (book .entry)) (now (sums .entry))) month) ⌝ }
+    ensures { λ _. ⌜ lent (now (book .exit)) (now (sums .exit)) ≡ withdrawn (lent (now (book .entry)) (now (sums .entry))) month ⌝ }
 {
-    answer(yearbook::withdraw(book, month))
+    answer(yearbook::withdraw(book, sums, month))
 }
 
 fn put_totals(k: u32, sums: &[u64], totals: &mut [u64])
@@ -113,11 +113,11 @@ fn put_totals(k: u32, sums: &[u64], totals: &mut [u64])
     }
 }
 
-// k and a unit's eight sums into a list of 9 numbers: 15, 13, 18.
+// k and a unit's eight sums into a list of 9 numbers: 15, 13, 18, 19.
 #[no_mangle]
-pub extern "C" fn heatcost_year(book: &[u32], place: u32, totals: &mut [u64]) -> u32
-    ensures { λ r. ⌜ r ≡ answerNumber (yearListAnswer (now (book .entry)) place (now (totals .entry))) ⌝ }
-    ensures { λ _. ⌜ now (totals .exit) ≡ yearListAfter (now (book .entry)) place (now (totals .entry)) ⌝ }
+pub extern "C" fn heatcost_year(book: &[u32], sums: &[u64], place: u32, totals: &mut [u64]) -> u32
+    ensures { λ r. ⌜ r ≡ answerNumber (yearListAnswer (lent (now (book .entry)) (now (sums .entry))) place (now (totals .entry))) ⌝ }
+    ensures { λ _. ⌜ now (totals .exit) ≡ yearListAfter (lent (now (book .entry)) (now (sums .entry))) place (now (totals .entry)) ⌝ }
 {
     if totals.len() != 9 {
         if yearbook::bad_book(book) {
@@ -125,12 +125,12 @@ pub extern "C" fn heatcost_year(book: &[u32], place: u32, totals: &mut [u64]) ->
         }
         return answer(Outcome::Refused(Refusal::BufferLength));
     }
-    let t = yearbook::year(book, place);
+    let t = yearbook::year(book, sums, place);
     let outcome = t.outcome;
-    let sums = t.sums;
+    let unit = t.sums;
     let Outcome::Accepted = outcome else {
         return answer(outcome);
     };
-    put_totals(t.k, &sums, totals);
+    put_totals(t.k, &unit, totals);
     0
 }

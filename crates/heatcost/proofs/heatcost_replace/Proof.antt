@@ -1,7 +1,7 @@
 -- `heatcost_replace` meets its contract.
 use mathlib.Core.Path.{ap, subst, sym, _∙_}
 use Rattle.sheet.specs.Inner.Places.{PlaceBelow}
-use Rattle.yearbook.specs.LentBook.{replaceAnswer, lentReply, lentAfter}
+use Rattle.yearbook.specs.LentBook.{lent, replaceAnswer, lentReply, lentAfter}
 use Rattle.yearbook.proofs.Places.{replace-place, same-outcome}
 use Rattle.heatcost.specs.Answer.{answerNumber}
 use borrow.Author.Needs.{needs}
@@ -14,19 +14,23 @@ replace-requires c κs = search needs
 answer-requires : tie.Need-answer-requires
 unfolding lentReply
 answer-requires c κs =
-    let a = c .before .before .before .before .before .before .args in
-    let r = c .before .before .replace in
-    subst (PlaceBelow 160) (sym (same-outcome (r .result) (replaceAnswer (a .book .now) (a .sheet .now)) (r .ensures .reply))) (replace-place (a .book .now) (a .sheet .now))
+    let a = c .before .before .before .before .before .before .before .before .before .before .args in let l = lent (a .book .now) (a .sums .now) in
+    let r = c .before .before .before .before .replace in
+    subst (PlaceBelow 160) (sym (same-outcome (r .result) (replaceAnswer l (a .sheet .now)) (r .ensures .reply))) (replace-place l (a .sheet .now))
 
 same-length : tie.Need-same-length
 same-length c = search needs
 
+same-length-2 : tie.Need-same-length-2
+same-length-2 c = search needs
+
 returns : tie.Need-returns
 unfolding lentReply lentAfter
 returns c =
-    let a = c .before .before .before .before .before .before .before .args in
-    let r = c .before .before .before .replace in
-    (c .answer .ensures ∙ ap answerNumber (same-outcome (r .result) (replaceAnswer (a .book .now) (a .sheet .now)) (r .ensures .reply)), r .ensures .after)
+    let a = c .before .before .before .before .before .before .before .before .before .before .before .args in
+    let r = c .before .before .before .before .before .replace in
+    (c .answer .ensures ∙ ap answerNumber (same-outcome (r .result) (replaceAnswer (lent (a .book .now) (a .sums .now)) (a .sheet .now)) (r .ensures .reply)), r .ensures .after)
 
 pub heatcost-replace-spec : {M : Type 1} → statement M
-heatcost-replace-spec = tie.close (tie.spec replace-requires answer-requires same-length returns)
+heatcost-replace-spec =
+    tie.close (tie.spec replace-requires answer-requires same-length same-length-2 returns)

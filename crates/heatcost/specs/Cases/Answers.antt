@@ -6,24 +6,24 @@ use lib.ListN.{replicate}
 use Rattle.sheet.specs.declared.refusal.Refusal.{Refusal}
 use Rattle.sheet.specs.declared.refusal.Refusal.the-variants.{TooShort, BadMagic, UnsupportedVersion, HeaderField, WrongLength, RowField, IdOrder}
 use Rattle.sheet.specs.declared.refusal.Refusal.the-variants.{HotWaterExceedsMeter, ZeroDivisor, NoReadings, MetersExceedHeat, UnmeteredExceedsHeat}
-use Rattle.sheet.specs.declared.refusal.Refusal.the-variants.{BufferLength, BadArchive, BadYearBook, OtherBuilding, MonthState, NoSuchUnit}
+use Rattle.sheet.specs.declared.refusal.Refusal.the-variants.{BufferLength, BadArchive, BadYearBook, OtherBuilding, MonthState, NoSuchUnit, BadYearSums}
 use Rattle.sheet.specs.declared.refusal.Outcome.the-variants.{Accepted, Refused}
 use Rattle.sheet.specs.Tests.{any}
 use Rattle.sheet.specs.Refusals.{firstRefusal}
-use Rattle.yearbook.specs.LentBook.{badBook, yearRules}
+use Rattle.yearbook.specs.LentBook.{Lent, lent, badBook, yearRules}
 use Rattle.heatcost.specs.Answer.{answerNumber}
 use Rattle.heatcost.specs.Year.{yearListAnswer}
 
--- document 01's table of refusals from 1 to 18, those of a row at place 0
+-- the refusals from 1 to 19, those of a row at place 0
 refusals : List Refusal
 refusals =
     TooShort ∷ BadMagic ∷ UnsupportedVersion ∷ HeaderField ∷ WrongLength ∷ RowField 0 ∷ IdOrder 0
     ∷ HotWaterExceedsMeter ∷ ZeroDivisor ∷ NoReadings ∷ MetersExceedHeat ∷ UnmeteredExceedsHeat
-    ∷ BufferLength ∷ BadArchive ∷ BadYearBook ∷ OtherBuilding ∷ MonthState ∷ NoSuchUnit
+    ∷ BufferLength ∷ BadArchive ∷ BadYearBook ∷ OtherBuilding ∷ MonthState ∷ NoSuchUnit ∷ BadYearSums
     ∷ []
 
 numbers : map answerNumber (Accepted ∷ map Refused refusals)
-    ≡ 0 ∷ 1 ∷ 2 ∷ 3 ∷ 4 ∷ 5 ∷ 6 ∷ 7 ∷ 8 ∷ 9 ∷ 10 ∷ 11 ∷ 12 ∷ 13 ∷ 14 ∷ 15 ∷ 16 ∷ 17 ∷ 18 ∷ []
+    ≡ 0 ∷ 1 ∷ 2 ∷ 3 ∷ 4 ∷ 5 ∷ 6 ∷ 7 ∷ 8 ∷ 9 ∷ 10 ∷ 11 ∷ 12 ∷ 13 ∷ 14 ∷ 15 ∷ 16 ∷ 17 ∷ 18 ∷ 19 ∷ []
 unfolding refusals
 numbers = refl
 
@@ -31,14 +31,23 @@ numbers = refl
 places : map answerNumber (Refused (RowField 2) ∷ Refused (IdOrder 159) ∷ []) ≡ 518 ∷ 40711 ∷ []
 places = refl
 
--- ---- the year call on a book of n units and nothing else: 15, then 13, then 18
-abbrev book : (n : ℕ) → List ℕ
-book n = n ∷ replicate 15556 0
-
+-- ---- the year call on a book of n units and nothing else, with some sums: 15, then 13, then 18, then 19
 abbrev list : (count : ℕ) → List ℕ
 list count = replicate count 0
 
-year-list : yearListAnswer [] 0 (list 8) ∷ yearListAnswer (book 161) 0 (list 8) ∷ yearListAnswer (book 1) 1 (list 8) ∷ yearListAnswer (book 1) 1 (list 9) ∷ map (λ count. yearListAnswer (book 1) 0 (list count)) (8 ∷ 9 ∷ 10 ∷ [])
-    ≡ Refused BadYearBook ∷ Refused BadYearBook ∷ Refused BufferLength ∷ Refused NoSuchUnit ∷ Refused BufferLength ∷ Accepted ∷ Refused BufferLength ∷ []
+abbrev book : (n sums : ℕ) → Lent
+book n sums = lent (n ∷ list 15556) (list sums)
+
+year-list : map (λ l. yearListAnswer l 1 (list 8)) (lent [] [] ∷ book 161 0 ∷ book 1 0 ∷ book 2 0 ∷ [])
+    ≡ Refused BadYearBook ∷ Refused BadYearBook ∷ Refused BufferLength ∷ Refused BufferLength ∷ []
 unfolding yearListAnswer yearRules badBook any firstRefusal
 year-list = refl
+
+year-place : map (λ l. yearListAnswer l 1 (list 9)) (book 161 0 ∷ book 1 0 ∷ book 1 1280 ∷ book 2 1279 ∷ book 2 1280 ∷ book 2 1281 ∷ [])
+    ≡ Refused BadYearBook ∷ Refused NoSuchUnit ∷ Refused NoSuchUnit ∷ Refused BadYearSums ∷ Accepted ∷ Refused BadYearSums ∷ []
+unfolding yearListAnswer yearRules badBook any firstRefusal
+year-place = refl
+
+year-count : map (λ count. yearListAnswer (book 1 1280) 0 (list count)) (8 ∷ 9 ∷ 10 ∷ []) ≡ Refused BufferLength ∷ Accepted ∷ Refused BufferLength ∷ []
+unfolding yearListAnswer yearRules badBook any firstRefusal
+year-count = refl

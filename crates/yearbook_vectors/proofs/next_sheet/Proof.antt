@@ -11,13 +11,16 @@ array-borrow-prefix-buffer : tie.Need-array-borrow-prefix-buffer
 array-borrow-prefix-buffer c = search needs
 
 slice-aggregate-sheet-into : tie.Need-slice-aggregate-sheet-into
-slice-aggregate-sheet-into c = sym (length-take-le (c .before .before .before .args .length) (replicate {A = ℕ} 5400 0) (omega (arith, length-replicate {A = ℕ} 5400 0)))
+slice-aggregate-sheet-into c = sym (length-take-le (c .before .before .before .before .before .args .length) (replicate {A = ℕ} 5400 0) (omega (arith, length-replicate {A = ℕ} 5400 0)))
 
 sheet-into-requires : tie.Need-sheet-into-requires
 sheet-into-requires c κs = search needs
 
 same-length : tie.Need-same-length
 same-length c = search needs
+
+same-length-2 : tie.Need-same-length-2
+same-length-2 c = search needs
 
 returns : tie.Need-returns
 returns c = search needs
@@ -30,4 +33,5 @@ next-sheet-spec =
     slice-aggregate-sheet-into
     sheet-into-requires
     same-length
+    same-length-2
     returns)
