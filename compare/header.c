@@ -39,7 +39,7 @@ static void answers(void)
     EXPECT(HEATCOST_PLACE(512 + 6), 2);
     EXPECT(HEATCOST_PLACE(256 * 1919 + 7), 1919);
     EXPECT(strcmp(heatcost_text(518), heatcost_text(HEATCOST_ROW_FIELD)), 0);
-    EXPECT(strcmp(heatcost_text(19), "no such number"), 0);
+    EXPECT(strcmp(heatcost_text(20), "no such number"), 0);
     EXPECT(strcmp(heatcost_text(255), "no such number"), 0);
 }
 
@@ -55,13 +55,10 @@ static void make_sheet(uint8_t *sheet, uint8_t meter)
     sheet[48 + 8] = 1; /* heated area */
 }
 
-/* Every list as NULL with a count of 0; at opening the book has no values yet. */
+/* Every list as NULL with a count of 0. */
 static void nulls(void)
 {
-    uint32_t *book = (uint32_t *)malloc(HEATCOST_BOOK_LEN * sizeof *book);
     uint8_t sheet[HEATCOST_SHEET_LEN(1)];
-    if (book == NULL)
-        exit(2);
     make_sheet(sheet, 0);
     EXPECT(heatcost_settle(NULL, 0, NULL, 0), HEATCOST_TOO_SHORT);
     EXPECT(heatcost_settle(sheet, sizeof sheet, NULL, 0), HEATCOST_BUFFER_LENGTH);
@@ -71,16 +68,36 @@ static void nulls(void)
     EXPECT(heatcost_write_record(sheet, sizeof sheet, NULL, 0), HEATCOST_BUFFER_LENGTH);
     EXPECT(heatcost_read_record(NULL, 0), HEATCOST_BAD_ARCHIVE);
     EXPECT(heatcost_record_sheet_len(NULL, 0), 0);
-    EXPECT(heatcost_open(NULL, 0, NULL, 0), HEATCOST_BAD_YEAR_BOOK);
-    EXPECT(heatcost_open(book, HEATCOST_BOOK_LEN, NULL, 0), HEATCOST_TOO_SHORT);
-    EXPECT(heatcost_open(book, HEATCOST_BOOK_LEN, sheet, sizeof sheet), HEATCOST_ACCEPTED);
-    EXPECT(heatcost_post(NULL, 0, NULL, 0), HEATCOST_BAD_YEAR_BOOK);
-    EXPECT(heatcost_post(book, HEATCOST_BOOK_LEN, NULL, 0), HEATCOST_TOO_SHORT);
-    EXPECT(heatcost_replace(NULL, 0, NULL, 0), HEATCOST_BAD_YEAR_BOOK);
-    EXPECT(heatcost_replace(book, HEATCOST_BOOK_LEN, NULL, 0), HEATCOST_TOO_SHORT);
-    EXPECT(heatcost_withdraw(NULL, 0, 1), HEATCOST_BAD_YEAR_BOOK);
-    EXPECT(heatcost_year(NULL, 0, 0, NULL, 0), HEATCOST_BAD_YEAR_BOOK);
-    EXPECT(heatcost_year(book, HEATCOST_BOOK_LEN, 0, NULL, 0), HEATCOST_BUFFER_LENGTH);
+}
+
+/* The same for the calls on a year book; at opening book and sums have no values yet. */
+static void nulls_of_a_year(void)
+{
+    enum { BOOK = HEATCOST_BOOK_LEN, SUMS = HEATCOST_SUMS_LEN, TOTALS = HEATCOST_TOTALS_LEN };
+    uint32_t *book = (uint32_t *)malloc(BOOK * sizeof *book);
+    uint64_t *sums = (uint64_t *)malloc(SUMS * sizeof *sums);
+    uint64_t totals[TOTALS];
+    uint8_t sheet[HEATCOST_SHEET_LEN(1)];
+    if (book == NULL || sums == NULL)
+        exit(2);
+    make_sheet(sheet, 0);
+    EXPECT(heatcost_open(NULL, 0, NULL, 0, NULL, 0), HEATCOST_BAD_YEAR_BOOK);
+    EXPECT(heatcost_open(book, BOOK, NULL, 0, NULL, 0), HEATCOST_TOO_SHORT);
+    EXPECT(heatcost_open(book, BOOK, NULL, 0, sheet, sizeof sheet), HEATCOST_BAD_YEAR_SUMS);
+    EXPECT(heatcost_open(book, BOOK, sums, SUMS, sheet, sizeof sheet), HEATCOST_ACCEPTED);
+    EXPECT(heatcost_post(NULL, 0, NULL, 0, NULL, 0), HEATCOST_BAD_YEAR_BOOK);
+    EXPECT(heatcost_post(book, BOOK, NULL, 0, NULL, 0), HEATCOST_TOO_SHORT);
+    EXPECT(heatcost_post(book, BOOK, NULL, 0, sheet, sizeof sheet), HEATCOST_BAD_YEAR_SUMS);
+    EXPECT(heatcost_post(book, BOOK, sums, SUMS, sheet, sizeof sheet), HEATCOST_ACCEPTED);
+    EXPECT(heatcost_replace(NULL, 0, NULL, 0, NULL, 0), HEATCOST_BAD_YEAR_BOOK);
+    EXPECT(heatcost_replace(book, BOOK, NULL, 0, NULL, 0), HEATCOST_TOO_SHORT);
+    EXPECT(heatcost_replace(book, BOOK, NULL, 0, sheet, sizeof sheet), HEATCOST_BAD_YEAR_SUMS);
+    EXPECT(heatcost_withdraw(NULL, 0, NULL, 0, 1), HEATCOST_BAD_YEAR_BOOK);
+    EXPECT(heatcost_withdraw(book, BOOK, NULL, 0, 1), HEATCOST_BAD_YEAR_SUMS);
+    EXPECT(heatcost_year(NULL, 0, NULL, 0, 0, NULL, 0), HEATCOST_BAD_YEAR_BOOK);
+    EXPECT(heatcost_year(book, BOOK, NULL, 0, 0, NULL, 0), HEATCOST_BUFFER_LENGTH);
+    EXPECT(heatcost_year(book, BOOK, NULL, 0, 0, totals, TOTALS), HEATCOST_BAD_YEAR_SUMS);
+    free(sums);
     free(book);
 }
 
@@ -132,6 +149,7 @@ int main(void)
     lengths();
     answers();
     nulls();
+    nulls_of_a_year();
     threads();
     return failed;
 }

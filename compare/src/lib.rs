@@ -1,5 +1,5 @@
-//! An independent implementation of document 01 in plain Rust, with request
-//! 2026-01.
+//! An independent implementation of document 01 in plain Rust, with requests
+//! 2026-01 and 2026-02.
 //!
 //! It was written from the documents alone and shares no code with the product.
 //! Nothing here is proved. It makes the stored vectors of the gate, and it is
@@ -22,10 +22,13 @@
 //!   part, and 1 where that sheet's record is the vector, else 0. The first
 //!   vector is case A's record.
 //! - `cargo run --release --bin book_vectors FOLDER`: "Year book". A vector is
-//!   a call on one list: its kind (8 bits: open, post, replace, withdraw, year)
-//!   and a sheet as before, or a month or place (32 bits); kind 5 writes a
-//!   number (16 bits) at a place of the list (16 bits). Its line is number and
-//!   place, for a year call k and the sums, and the list as one number.
+//!   a call on one book and the first 1,280 of 1,281 sums: its kind (8 bits:
+//!   open, post, replace, withdraw, year) and a sheet as before, or a month or
+//!   place (32 bits). Kind 5 writes a number (16 bits) at a place of the book
+//!   (16 bits), kind 6 a number (64 bits) at a place of the sums (16 bits), and
+//!   kind 7 lends another count of sums from there on (16 bits). A line is
+//!   number and place, for a year call k and the sums, then the book and all
+//!   1,281 sums as a number each.
 //!
 //! All numbers in `stdin` are little-endian. `cargo test --release` runs the
 //! document's cases and the random checks. `compare/run` compares the library

@@ -1,4 +1,5 @@
-//! Document 01, "Refused sheets and calls": numbers and places.
+//! Document 01, "Refused sheets and calls", with request 2026-02: numbers and
+//! places.
 
 /// A refusal's number, and its place: the row for 6 and 7, else 0.
 #[derive(Clone, Copy, Debug, PartialEq, Eq)]
@@ -43,6 +44,8 @@ pub const OTHER_BUILDING: u32 = 16;
 pub const MONTH_STATE: u32 = 17;
 /// place
 pub const NO_SUCH_UNIT: u32 = 18;
+/// sums
+pub const BAD_YEAR_SUMS: u32 = 19;
 
 /// A refusal at place 0.
 pub fn refuse<T>(number: u32) -> Result<T, Refusal> {

@@ -2,7 +2,7 @@
 //! output of A, and case C as model 4 (request 2026-01).
 
 use compare::apportion::apportion;
-use compare::book::{self, BOOK_LEN};
+use compare::book::{self, BOOK_LEN, SUMS_LEN};
 use compare::cases::*;
 use compare::print::{print_into, print_statement};
 use compare::rules::{RuleSet, NEWEST};
@@ -168,10 +168,10 @@ fn entry_points_go_by_the_newest_rules() {
     assert_eq!(settle(&bytes, 24).as_ref(), Ok(&newest));
     let text = print_statement(&bytes);
     assert!(text.contains("\n11 571429 "), "{text}");
-    let mut book = vec![0; BOOK_LEN];
-    book::open(&mut book, &bytes).unwrap();
-    book::post(&mut book, &bytes).unwrap();
+    let (mut book, mut sums) = (vec![0; BOOK_LEN], vec![0; SUMS_LEN]);
+    book::open(&mut book, &mut sums, &bytes).unwrap();
+    book::post(&mut book, &mut sums, &bytes).unwrap();
     assert_eq!(book[197..221], newest.numbers);
-    book::replace(&mut book, &bytes).unwrap();
+    book::replace(&mut book, &mut sums, &bytes).unwrap();
     assert_eq!(book[197..221], newest.numbers);
 }

@@ -1,6 +1,6 @@
 //! The fast form against the plain one: answers and every list.
 
-use compare::book::{self, BOOK_LEN};
+use compare::book::{self, BOOK_LEN, SUMS_LEN};
 use compare::damage::damaged_sheet;
 use compare::edges::{border_sheet, sheet_at_an_end};
 use compare::rng::Rng;
@@ -81,23 +81,57 @@ fn records() {
     }
 }
 
+/// Sums that match or not, sometimes of another length.
+fn sums_beside(rng: &mut Rng, list: &[u32]) -> Vec<u64> {
+    let mut sums = book::matching_sums(list);
+    let places = if rng.once_in(2) { 16 } else { 1_280 };
+    let place = rng.below(places) as usize;
+    match rng.below(8) {
+        0 => sums[place] = sums[place].wrapping_sub(1),
+        1 => sums[place] = u64::MAX - rng.below(2),
+        2 => sums[place] = rng.draw() >> rng.below(64),
+        3 => sums.resize(SUMS_LEN + 1, 0),
+        4 if rng.once_in(2) => sums.truncate(SUMS_LEN - 1),
+        _ => {}
+    }
+    sums
+}
+
 #[test]
 fn books() {
     let mut rng = Rng::new(33);
-    for _ in 0..300 {
-        let (mut plain, mut other) = (vec![7; BOOK_LEN], vec![7; BOOK_LEN]);
+    let mut answers = [0; 20];
+    for _ in 0..2_000 {
         let sheet = random_bytes(&mut rng);
-        let expected = book::open(&mut plain, &sheet);
-        assert_eq!(fast::book::open(&mut other, &sheet), expected);
-        for _ in 0..3 {
-            let expected = book::post(&mut plain, &sheet);
-            assert_eq!(fast::book::post(&mut other, &sheet), expected);
-            let expected = book::replace(&mut plain, &sheet);
-            assert_eq!(fast::book::replace(&mut other, &sheet), expected);
-            assert_eq!(other, plain);
-            let place = rng.below(5) as u32;
-            assert_eq!(fast::book::year(&other, place), book::year(&plain, place));
+        let mut plain: Vec<u32> = (0..BOOK_LEN).map(|_| rng.draw() as u32).collect();
+        book::open(&mut plain, &mut [0; SUMS_LEN], &sheet).ok();
+        for _ in 0..6 {
+            let mut other = plain.clone();
+            let mut sums = sums_beside(&mut rng, &plain);
+            let mut other_sums = sums.clone();
+            let (month, place) = (rng.below(14) as u32, rng.below(5) as u32);
+            let called = rng.below(8);
+            let expected = match called {
+                0 => book::open(&mut plain, &mut sums, &sheet),
+                1..=3 => book::post(&mut plain, &mut sums, &sheet),
+                4 | 5 => book::replace(&mut plain, &mut sums, &sheet),
+                _ => book::withdraw(&mut plain, &mut sums, month),
+            };
+            let answer = match called {
+                0 => fast::book::open(&mut other, &mut other_sums, &sheet),
+                1..=3 => fast::book::post(&mut other, &mut other_sums, &sheet),
+                4 | 5 => fast::book::replace(&mut other, &mut other_sums, &sheet),
+                _ => fast::book::withdraw(&mut other, &mut other_sums, month),
+            };
+            assert_eq!(answer, expected);
+            assert!(other == plain && other_sums == sums);
+            answers[answer.err().map_or(0, |refusal| refusal.number) as usize] += 1;
+            let expected = book::year(&plain, &sums, place);
+            assert_eq!(fast::book::year(&plain, &sums, place), expected);
         }
+    }
+    for number in [0, 6, 9, 15, 17, 19] {
+        assert!(answers[number] > 50, "few answers {number}: {answers:?}");
     }
 }
 

@@ -2,7 +2,7 @@
 //! program's declarations and stack, docs/FORMAT.md's refusals, the plain form's
 //! numbers and lengths.
 
-use compare::book::BOOK_LEN;
+use compare::book::{BOOK_LEN, SUMS_LEN};
 use compare::sheet::MAX_UNITS;
 
 const HEADER: &str = include_str!("../../include/heatcost.h");
@@ -52,6 +52,7 @@ fn rust_type(c: &str) -> &'static str {
     match c {
         "const uint8_t *" => "*const u8",
         "const uint32_t *" => "*const u32",
+        "const uint64_t *" => "*const u64",
         "uint8_t *" => "*mut u8",
         "uint32_t *" => "*mut u32",
         "uint64_t *" => "*mut u64",
@@ -84,9 +85,10 @@ fn in_rust(declaration: &str) -> String {
 fn the_programs_declarations_are_the_headers() {
     let block = CALLS.split_once("extern \"C\" {").expect("declarations").1;
     let block = block.split_once('}').expect("their end").0;
-    let ours: Vec<&str> = block
+    let words = |text: &str| text.split_whitespace().collect::<Vec<&str>>().join(" ");
+    let ours: Vec<String> = block
         .split(';')
-        .map(str::trim)
+        .map(words)
         .filter(|declaration| !declaration.is_empty())
         .collect();
     let theirs: Vec<String> = declarations().iter().map(|d| in_rust(d)).collect();
@@ -111,6 +113,7 @@ fn a_changed_parameter_raises_the_interface() {
 #[test]
 fn lengths_and_stack_are_the_programs() {
     assert_eq!(defined("HEATCOST_BOOK_LEN"), BOOK_LEN);
+    assert_eq!(defined("HEATCOST_SUMS_LEN"), SUMS_LEN);
     assert_eq!(defined("HEATCOST_MAX_UNITS"), MAX_UNITS);
     assert_eq!(defined("HEATCOST_TOTALS_LEN"), 9);
     let promised = format!(
@@ -149,7 +152,7 @@ fn refusals() -> Vec<(usize, String, &'static str)> {
 fn numbers_names_and_texts_are_those_of_the_format() {
     let refusals = refusals();
     let numbers: Vec<usize> = refusals.iter().map(|refusal| refusal.0).collect();
-    assert_eq!(numbers, (1..=18).collect::<Vec<usize>>());
+    assert_eq!(numbers, (1..=19).collect::<Vec<usize>>());
     let mut members = vec!["HEATCOST_ACCEPTED = 0".to_string()];
     let mut cases = vec!["case HEATCOST_ACCEPTED: return \"accepted\";".to_string()];
     for (number, name, means) in refusals {

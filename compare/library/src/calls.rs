@@ -8,11 +8,15 @@ extern "C" {
     fn heatcost_write_record(sheet: *const u8, sheet_len: usize, record: *mut u8, record_len: usize) -> u32;
     fn heatcost_read_record(record: *const u8, record_len: usize) -> u32;
     fn heatcost_record_sheet_len(record: *const u8, record_len: usize) -> u64;
-    fn heatcost_open(book: *mut u32, book_len: usize, sheet: *const u8, sheet_len: usize) -> u32;
-    fn heatcost_post(book: *mut u32, book_len: usize, sheet: *const u8, sheet_len: usize) -> u32;
-    fn heatcost_replace(book: *mut u32, book_len: usize, sheet: *const u8, sheet_len: usize) -> u32;
-    fn heatcost_withdraw(book: *mut u32, book_len: usize, month: u32) -> u32;
-    fn heatcost_year(book: *const u32, book_len: usize, place: u32, totals: *mut u64, totals_len: usize) -> u32;
+    fn heatcost_open(book: *mut u32, book_len: usize, sums: *mut u64, sums_len: usize, sheet: *const u8,
+        sheet_len: usize) -> u32;
+    fn heatcost_post(book: *mut u32, book_len: usize, sums: *mut u64, sums_len: usize, sheet: *const u8,
+        sheet_len: usize) -> u32;
+    fn heatcost_replace(book: *mut u32, book_len: usize, sums: *mut u64, sums_len: usize, sheet: *const u8,
+        sheet_len: usize) -> u32;
+    fn heatcost_withdraw(book: *mut u32, book_len: usize, sums: *mut u64, sums_len: usize, month: u32) -> u32;
+    fn heatcost_year(book: *const u32, book_len: usize, sums: *const u64, sums_len: usize, place: u32,
+        totals: *mut u64, totals_len: usize) -> u32;
 }
 
 #[cfg(feature = "division")]
@@ -43,27 +47,64 @@ pub fn record_sheet_len(record: &[u8]) -> u64 {
     unsafe { heatcost_record_sheet_len(record.as_ptr(), record.len()) }
 }
 
-pub fn open(book: &mut [u32], sheet: &[u8]) -> u32 {
-    unsafe { heatcost_open(book.as_mut_ptr(), book.len(), sheet.as_ptr(), sheet.len()) }
+pub fn open(book: &mut [u32], sums: &mut [u64], sheet: &[u8]) -> u32 {
+    unsafe {
+        heatcost_open(
+            book.as_mut_ptr(),
+            book.len(),
+            sums.as_mut_ptr(),
+            sums.len(),
+            sheet.as_ptr(),
+            sheet.len(),
+        )
+    }
 }
 
-pub fn post(book: &mut [u32], sheet: &[u8]) -> u32 {
-    unsafe { heatcost_post(book.as_mut_ptr(), book.len(), sheet.as_ptr(), sheet.len()) }
+pub fn post(book: &mut [u32], sums: &mut [u64], sheet: &[u8]) -> u32 {
+    unsafe {
+        heatcost_post(
+            book.as_mut_ptr(),
+            book.len(),
+            sums.as_mut_ptr(),
+            sums.len(),
+            sheet.as_ptr(),
+            sheet.len(),
+        )
+    }
 }
 
-pub fn replace(book: &mut [u32], sheet: &[u8]) -> u32 {
-    unsafe { heatcost_replace(book.as_mut_ptr(), book.len(), sheet.as_ptr(), sheet.len()) }
+pub fn replace(book: &mut [u32], sums: &mut [u64], sheet: &[u8]) -> u32 {
+    unsafe {
+        heatcost_replace(
+            book.as_mut_ptr(),
+            book.len(),
+            sums.as_mut_ptr(),
+            sums.len(),
+            sheet.as_ptr(),
+            sheet.len(),
+        )
+    }
 }
 
-pub fn withdraw(book: &mut [u32], month: u32) -> u32 {
-    unsafe { heatcost_withdraw(book.as_mut_ptr(), book.len(), month) }
+pub fn withdraw(book: &mut [u32], sums: &mut [u64], month: u32) -> u32 {
+    unsafe {
+        heatcost_withdraw(
+            book.as_mut_ptr(),
+            book.len(),
+            sums.as_mut_ptr(),
+            sums.len(),
+            month,
+        )
+    }
 }
 
-pub fn year(book: &[u32], place: u32, totals: &mut [u64]) -> u32 {
+pub fn year(book: &[u32], sums: &[u64], place: u32, totals: &mut [u64]) -> u32 {
     unsafe {
         heatcost_year(
             book.as_ptr(),
             book.len(),
+            sums.as_ptr(),
+            sums.len(),
             place,
             totals.as_mut_ptr(),
             totals.len(),

@@ -11,7 +11,7 @@ use compare::rng::Rng;
 
 /// A book has some sixty calls of its own, so that it comes once in so many
 /// rounds.
-const ROUNDS_A_BOOK: u64 = 400;
+const ROUNDS_A_BOOK: u64 = 200;
 
 /// The rounds have numbers of their own, so that each can be run alone.
 pub fn compare_round(side: &Side, seed: u64, round: u64, tally: &mut Tally) -> Compared<()> {
@@ -67,7 +67,12 @@ fn compare_print(side: &Side, rng: &mut Rng, sheet: &[u8]) -> Compared<()> {
     same("print: length", sheet, expected, text_len)?;
     // Settled, it is 13 that refuses an empty list.
     let settled = calls::settle(sheet, &mut []) == BUFFER_LENGTH;
-    let longest = 49 + if settled { 99 * unit_count(sheet) as u64 } else { 0 };
+    let longest = 49
+        + if settled {
+            99 * unit_count(sheet) as u64
+        } else {
+            0
+        };
     same("print: longest", sheet, text_len.max(longest), longest)?;
     let len = list_len(rng, text_len as usize);
     let mut ours = vec![5; len];

@@ -1,11 +1,14 @@
-//! Random inputs: sheets, damaged sheets, records, books.
+//! Random inputs: sheets, damaged sheets, records, books and their sums.
 
+use compare::book::{block, matching_sums, BOOK_LEN, SUMS_LEN};
+use compare::calls::Call;
 use compare::damage::{damage, damaged_sheet, put};
 use compare::edges::{border_sheet, sheet_at_an_end};
 use compare::record::{head, named_rules, record_of};
 use compare::rng::Rng;
 use compare::rules::RuleSet;
 use compare::samples::random_sheet;
+use compare::settle::settle_bytes;
 use compare::sheet::{build_sheet, get_u16};
 
 /// A sheet, good or bad, or any bytes.
@@ -90,10 +93,11 @@ fn random_rules(rng: &mut Rng) -> RuleSet {
     RuleSet::ALL[rng.below(RuleSet::ALL.len() as u64) as usize]
 }
 
-/// A book of random contents, mostly with a right n and right marks, and
-/// mostly with the ids of a building.
+/// A book of random contents, large numbers or small ones, mostly with a right n
+/// and right marks, and mostly with the ids of a building.
 pub fn random_book(rng: &mut Rng, len: usize, ids: &[u32]) -> Vec<u32> {
-    let mut book: Vec<u32> = (0..len).map(|_| rng.draw() as u32).collect();
+    let size = rng.below(2) * rng.below(32);
+    let mut book: Vec<u32> = (0..len).map(|_| rng.draw() as u32 >> size).collect();
     if len < 197 {
         return book;
     }
@@ -110,4 +114,62 @@ pub fn random_book(rng: &mut Rng, len: usize, ids: &[u32]) -> Vec<u32> {
         book[37 + ids.len()..197].fill(0);
     }
     book
+}
+
+/// Sums for a book: mostly those that match, else of any size.
+pub fn random_sums(rng: &mut Rng, book: &[u32]) -> Vec<u64> {
+    if book.len() == BOOK_LEN && !rng.once_in(8) {
+        return matching_sums(book);
+    }
+    let size = rng.below(64);
+    (0..SUMS_LEN).map(|_| rng.draw() >> size).collect()
+}
+
+/// Writes the sums before a call, if at all: one number, so that the call just
+/// fits or just doesn't; another length; or all anew, mostly right again.
+pub fn disturb_sums(rng: &mut Rng, book: &[u32], sums: &mut Vec<u64>, call: &Call) {
+    match rng.below(16) {
+        0..=6 if book.len() == BOOK_LEN => {
+            *sums = matching_sums(book);
+            set_one_sum(rng, book, sums, call);
+        }
+        7 => sums.resize(other_sums_len(rng), 0),
+        8..=10 => *sums = random_sums(rng, book),
+        _ => {}
+    }
+}
+
+/// At a place of the month's block, mostly one where something comes: what goes
+/// off, or one less; or the most to which the new number can come, or one more.
+fn set_one_sum(rng: &mut Rng, book: &[u32], sums: &mut [u64], call: &Call) {
+    let (month, new) = match call {
+        Call::Post(sheet) | Call::Replace(sheet) => match settle_bytes(sheet) {
+            Ok(outcome) => (usize::from(outcome.month), outcome.numbers),
+            Err(_) => return,
+        },
+        Call::Withdraw(month @ 1..=12) => (*month as usize, Vec::new()),
+        _ => return,
+    };
+    let filled: Vec<usize> = (0..new.len()).filter(|&place| new[place] > 0).collect();
+    let place = if filled.is_empty() || rng.once_in(4) {
+        rng.below(SUMS_LEN as u64) as usize
+    } else {
+        filled[rng.below(filled.len() as u64) as usize]
+    };
+    let most = u64::MAX - new.get(place).map_or(0, |&number| u64::from(number));
+    let old = u64::from(block(book, month - 1)[place]);
+    sums[place] = match (call, rng.below(4)) {
+        (Call::Post(_), choice) => most.saturating_add(choice % 2),
+        (_, 0) => old,
+        (_, 1) => old.saturating_sub(1),
+        (_, choice) => most.saturating_add(old).saturating_add(choice % 2),
+    };
+}
+
+pub fn other_sums_len(rng: &mut Rng) -> usize {
+    match rng.below(4) {
+        0 => SUMS_LEN - 1,
+        1 | 2 => SUMS_LEN + 1,
+        _ => rng.below(2 * SUMS_LEN as u64) as usize,
+    }
 }

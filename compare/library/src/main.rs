@@ -21,6 +21,7 @@ mod repeat;
 mod side;
 mod stack;
 mod tally;
+mod ways;
 
 use side::PLAIN;
 use std::process::ExitCode;

@@ -9,11 +9,11 @@ pub struct Side {
     pub write_record: fn(&[u8], &mut [u8]) -> u32,
     /// The answer and the length of the sheet's part.
     pub read_record: fn(&[u8]) -> (u32, u64),
-    pub open: fn(&mut [u32], &[u8]) -> u32,
-    pub post: fn(&mut [u32], &[u8]) -> u32,
-    pub replace: fn(&mut [u32], &[u8]) -> u32,
-    pub withdraw: fn(&mut [u32], u32) -> u32,
-    pub year: fn(&[u32], u32, &mut [u64]) -> u32,
+    pub open: fn(&mut [u32], &mut [u64], &[u8]) -> u32,
+    pub post: fn(&mut [u32], &mut [u64], &[u8]) -> u32,
+    pub replace: fn(&mut [u32], &mut [u64], &[u8]) -> u32,
+    pub withdraw: fn(&mut [u32], &mut [u64], u32) -> u32,
+    pub year: fn(&[u32], &[u64], u32, &mut [u64]) -> u32,
 }
 
 /// The number that a call answers (include/heatcost.h).
@@ -52,11 +52,11 @@ macro_rules! side {
                 let read = record::read_record(bytes);
                 (number(read.number, read.place), read.part_length as u64)
             },
-            open: |book, sheet| answer(book::open(book, sheet)),
-            post: |book, sheet| answer(book::post(book, sheet)),
-            replace: |book, sheet| answer(book::replace(book, sheet)),
-            withdraw: |book, month| answer(book::withdraw(book, month)),
-            year: |book, place, totals| answer(book::year_into(book, place, totals)),
+            open: |book, sums, sheet| answer(book::open(book, sums, sheet)),
+            post: |book, sums, sheet| answer(book::post(book, sums, sheet)),
+            replace: |book, sums, sheet| answer(book::replace(book, sums, sheet)),
+            withdraw: |book, sums, month| answer(book::withdraw(book, sums, month)),
+            year: |book, sums, place, totals| answer(book::year_into(book, sums, place, totals)),
         }
     }};
 }

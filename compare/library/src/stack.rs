@@ -2,7 +2,7 @@
 
 use crate::bench::settled_sheets;
 use crate::calls;
-use compare::book::BOOK_LEN;
+use compare::book::{BOOK_LEN, SUMS_LEN};
 use std::arch::asm;
 
 const SIZE: usize = 1 << 18;
@@ -56,7 +56,7 @@ pub fn measure() -> bool {
     let mut list = vec![0; 1280];
     let mut text = vec![0; 49 + 99 * 160];
     let mut bytes = vec![0; 56 + 64 * 160];
-    let mut book = vec![0; BOOK_LEN];
+    let (mut book, mut sums) = (vec![0; BOOK_LEN], vec![0; SUMS_LEN]);
     let needs = [
         (
             "settle",
@@ -84,7 +84,9 @@ pub fn measure() -> bool {
         ),
         (
             "open",
-            most(&sheets, |s| drop_answer(calls::open(&mut book, s))),
+            most(&sheets, |s| {
+                drop_answer(calls::open(&mut book, &mut sums, s))
+            }),
         ),
     ];
     let mut kept = true;
@@ -107,16 +109,22 @@ fn record_of(sheet: &[u8]) -> Vec<u8> {
 fn book_needs(sheets: &[Vec<u8>]) -> Vec<(&'static str, usize)> {
     let mut needs = vec![("post", 0), ("replace", 0), ("withdraw", 0), ("year", 0)];
     for sheet in sheets {
-        let mut book = vec![0; BOOK_LEN];
+        let (mut book, mut sums) = (vec![0; BOOK_LEN], vec![0; SUMS_LEN]);
         let mut totals = [0; 9];
         let month = u32::from(sheet[6]);
-        calls::open(&mut book, sheet);
+        calls::open(&mut book, &mut sums, sheet);
         let sheet = std::slice::from_ref(sheet);
         let found = [
-            most(sheet, |s| drop_answer(calls::post(&mut book, s))),
-            most(sheet, |s| drop_answer(calls::replace(&mut book, s))),
-            most(sheet, |_| drop_answer(calls::year(&book, 0, &mut totals))),
-            most(sheet, |_| drop_answer(calls::withdraw(&mut book, month))),
+            most(sheet, |s| drop_answer(calls::post(&mut book, &mut sums, s))),
+            most(sheet, |s| {
+                drop_answer(calls::replace(&mut book, &mut sums, s))
+            }),
+            most(sheet, |_| {
+                drop_answer(calls::year(&book, &sums, 0, &mut totals))
+            }),
+            most(sheet, |_| {
+                drop_answer(calls::withdraw(&mut book, &mut sums, month))
+            }),
         ];
         for (need, found) in needs
             .iter_mut()

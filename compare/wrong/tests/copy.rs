@@ -62,39 +62,69 @@ fn sheets_texts_and_records() {
     }
 }
 
+/// Sums between two calls: sometimes right again, one number wrong, or one
+/// number more.
+fn disturb(rng: &mut Rng, book: &[u32], sums: &mut Vec<u64>) {
+    let place = rng.below(25) as usize;
+    match rng.below(8) {
+        0 | 1 => *sums = compare::book::matching_sums(book),
+        2 => sums[place] = rng.draw() >> rng.below(64),
+        3 => sums[place] = u64::MAX,
+        4 => sums.push(0),
+        _ => {}
+    }
+}
+
 #[test]
 fn books() {
     let mut rng = Rng::new(2);
-    for _ in 0..40 {
+    for _ in 0..80 {
         let ids = random_ids(&mut rng, 3);
         let sheet = sheet_of_building(&mut rng, &ids);
-        let mut copy = vec![7; compare::book::BOOK_LEN];
+        let mut copy = (vec![7; compare::book::BOOK_LEN], vec![7; 1_280]);
         let mut plain = copy.clone();
         same(
-            wrong::book::open(&mut copy, &sheet),
-            compare::book::open(&mut plain, &sheet),
+            wrong::book::open(&mut copy.0, &mut copy.1, &sheet),
+            compare::book::open(&mut plain.0, &mut plain.1, &sheet),
         );
-        for _ in 0..60 {
+        for round in 0..60 {
             let call = random_call(&mut rng, &ids);
             same_call(&mut copy, &mut plain, &call);
             assert_eq!(copy, plain);
+            if round >= 30 {
+                disturb(&mut rng, &plain.0, &mut plain.1);
+                copy.1.clone_from(&plain.1);
+            }
         }
     }
 }
 
-fn same_call(copy: &mut [u32], plain: &mut [u32], call: &Call) {
+/// A book and its sums.
+type Lists = (Vec<u32>, Vec<u64>);
+
+fn same_call(copy: &mut Lists, plain: &mut Lists, call: &Call) {
     use {compare::book as right, wrong::book as bent};
+    let ((book, sums), (plain, plain_sums)) = (copy, plain);
     match call {
-        Call::Post(sheet) => same(bent::post(copy, sheet), right::post(plain, sheet)),
-        Call::Replace(sheet) => same(bent::replace(copy, sheet), right::replace(plain, sheet)),
-        Call::Withdraw(month) => same(bent::withdraw(copy, *month), right::withdraw(plain, *month)),
+        Call::Post(sheet) => same(
+            bent::post(book, sums, sheet),
+            right::post(plain, plain_sums, sheet),
+        ),
+        Call::Replace(sheet) => same(
+            bent::replace(book, sums, sheet),
+            right::replace(plain, plain_sums, sheet),
+        ),
+        Call::Withdraw(month) => same(
+            bent::withdraw(book, sums, *month),
+            right::withdraw(plain, plain_sums, *month),
+        ),
         Call::Year(place) => {
-            let (mut sums, mut totals) = ([0; 9], [0; 9]);
+            let (mut list, mut totals) = ([0; 9], [0; 9]);
             same(
-                bent::year_into(copy, *place, &mut sums),
-                right::year_into(plain, *place, &mut totals),
+                bent::year_into(book, sums, *place, &mut list),
+                right::year_into(plain, plain_sums, *place, &mut totals),
             );
-            assert_eq!(sums, totals);
+            assert_eq!(list, totals);
         }
     }
 }

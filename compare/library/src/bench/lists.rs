@@ -1,9 +1,9 @@
-//! The check, printing, the archive record and the year book.
+//! The check, printing and the archive record.
 
 use super::cases::settled_sheets;
-use super::{print_pair, print_pair_head};
+use super::{books, print_pair, print_pair_head};
 use crate::calls;
-use compare::book::BOOK_LEN;
+use compare::book::{BOOK_LEN, SUMS_LEN};
 use compare::fast;
 use std::hint::black_box;
 
@@ -18,8 +18,11 @@ pub fn run(seed: u64) {
         print(count, &sheets[0]);
         write(count, &sheets[0]);
         read(count, &sheets[0]);
-        post(count, &sheets[0]);
-        year(count, &sheets[0]);
+        books::run(count, &sheets[0]);
+    }
+    print_pair_head("year beside adding blocks", ["library", "adding"]);
+    for count in [160, 8] {
+        books::beside_adding(count, &settled_sheets(seed, 1, count, &MODELS)[0]);
     }
     print_pair_head("records beside settling", ["record", "settle"]);
     for count in [160, 8, 1] {
@@ -32,15 +35,17 @@ fn check(count: usize, sheet: &[u8]) {
     let mut sheet = sheet.to_vec();
     *sheet.last_mut().expect("a row") = 1;
     let [mut a, mut b] = [vec![0; BOOK_LEN], vec![0; BOOK_LEN]];
+    let mut sums = vec![0; SUMS_LEN];
+    let mut other_sums = sums.clone();
     print_pair(
         &format!("n {count}, check, refused at its end"),
         1,
         [
             &mut || {
-                black_box(calls::open(&mut a, black_box(&sheet)));
+                black_box(calls::open(&mut a, &mut sums, black_box(&sheet)));
             },
             &mut || {
-                black_box(fast::book::open(&mut b, black_box(&sheet))).ok();
+                black_box(fast::book::open(&mut b, &mut other_sums, black_box(&sheet))).ok();
             },
         ],
     );
@@ -92,52 +97,6 @@ fn read(count: usize, sheet: &[u8]) {
             },
             &mut || {
                 black_box(fast::record::read(black_box(&record))).ok();
-            },
-        ],
-    );
-}
-
-/// Replacing a month does what posting does, as often as one likes.
-fn post(count: usize, sheet: &[u8]) {
-    let [mut a, mut b] = [vec![0; BOOK_LEN], vec![0; BOOK_LEN]];
-    for book in [&mut a, &mut b] {
-        calls::open(book, sheet);
-        calls::post(book, sheet);
-    }
-    print_pair(
-        &format!("n {count}, replace a month"),
-        1,
-        [
-            &mut || {
-                black_box(calls::replace(&mut a, black_box(sheet)));
-            },
-            &mut || {
-                black_box(fast::book::replace(&mut b, black_box(sheet))).ok();
-            },
-        ],
-    );
-}
-
-/// The last unit's year over twelve months.
-fn year(count: usize, sheet: &[u8]) {
-    let mut book = vec![0; BOOK_LEN];
-    let mut sheet = sheet.to_vec();
-    calls::open(&mut book, &sheet);
-    for month in 1..=12 {
-        sheet[6] = month;
-        calls::post(&mut book, &sheet);
-    }
-    let place = count as u32 - 1;
-    let mut totals = [0; 9];
-    print_pair(
-        &format!("n {count}, year of a unit"),
-        1,
-        [
-            &mut || {
-                black_box(calls::year(black_box(&book), place, &mut totals));
-            },
-            &mut || {
-                black_box(fast::book::year(black_box(&book), place)).ok();
             },
         ],
     );

@@ -4,6 +4,7 @@
 //! one reciprocal for all items of a division. A figure is the best of many
 //! turns; the three sides take turns.
 
+mod books;
 mod cases;
 #[cfg(feature = "division")]
 mod divisions;

@@ -1,88 +1,18 @@
-//! Vectors for document 01's "Year book", with request 2026-01: calls on one
-//! list, one after the other.
+//! Vectors for document 01's "Year book", with requests 2026-01 and 2026-02:
+//! calls on one book and its sums, one after the other.
 mod refused;
+mod run;
+mod sums;
 
-use compare::book::{self, YearSums, BOOK_LEN};
-use compare::calls::{random_call, sheet_of_building, Call};
-use compare::cases::{case_a, case_a_with_meter, case_c_by_risers, two_units, water_by_volume};
-use compare::damage::put;
-use compare::refusal::Refusal;
+use compare::calls::{random_call, sheet_of_building};
+use compare::cases::{case_a, case_a_with_meter, case_c_by_risers};
 use compare::rng::Rng;
-use compare::samples::{good_sheet, random_sheet_of};
+use compare::samples::random_sheet_of;
 use compare::sheet::{build_sheet, Header, Sheet, Unit};
-use compare::vectors::{pack, write_files};
-
-/// The calls under construction: the list as they leave it, and both files.
-struct Run {
-    list: Vec<u32>,
-    stdin: Vec<u8>,
-    stdout: String,
-}
+use compare::vectors::write_files;
+use run::Run;
 
 impl Run {
-    fn begin(&mut self, kind: u8, arguments: &[u8]) {
-        self.stdin.push(kind);
-        self.stdin.extend(arguments);
-    }
-
-    /// Ends a line with the list as one number.
-    fn end(&mut self, answer: &str) {
-        let digest = self.list.iter().fold(0u64, |sum, number| {
-            (31 * sum + u64::from(*number)) % 1_000_000_007
-        });
-        self.stdout += &format!("{answer} {digest}\n");
-    }
-
-    fn open(&mut self, sheet: &[u8]) {
-        self.begin(0, &pack(&[sheet.to_vec()]));
-        let answer = book::open(&mut self.list, sheet);
-        self.end(&answer_words(&answer));
-    }
-
-    fn post(&mut self, sheet: &[u8]) {
-        self.begin(1, &pack(&[sheet.to_vec()]));
-        let answer = book::post(&mut self.list, sheet);
-        self.end(&answer_words(&answer));
-    }
-
-    fn replace(&mut self, sheet: &[u8]) {
-        self.begin(2, &pack(&[sheet.to_vec()]));
-        let answer = book::replace(&mut self.list, sheet);
-        self.end(&answer_words(&answer));
-    }
-
-    fn withdraw(&mut self, month: u32) {
-        self.begin(3, &month.to_le_bytes());
-        let answer = book::withdraw(&mut self.list, month);
-        self.end(&answer_words(&answer));
-    }
-
-    fn year(&mut self, place: u32) {
-        self.begin(4, &place.to_le_bytes());
-        let answer = book::year(&self.list, place);
-        let YearSums { months, sums } = answer.unwrap_or_default();
-        let sums: String = sums.iter().map(|sum| format!(" {sum}")).collect();
-        let words = answer_words(&answer);
-        self.end(&format!("{words} {months}{sums}"));
-    }
-
-    /// Writes a number of the list from outside.
-    fn set(&mut self, place: u16, number: u16) {
-        self.begin(5, &place.to_le_bytes());
-        self.stdin.extend(number.to_le_bytes());
-        self.list[usize::from(place)] = u32::from(number);
-        self.end("set");
-    }
-
-    fn call(&mut self, call: &Call) {
-        match call {
-            Call::Post(sheet) => self.post(sheet),
-            Call::Replace(sheet) => self.replace(sheet),
-            Call::Withdraw(month) => self.withdraw(*month),
-            Call::Year(place) => self.year(*place),
-        }
-    }
-
     /// The year calls of three units, and one place too far.
     fn years(&mut self) {
         for place in 0..4 {
@@ -231,20 +161,11 @@ fn in_month(mut sheet: Sheet, month: u8) -> Vec<u8> {
     build_sheet(&sheet)
 }
 
-fn answer_words<T>(answer: &Result<T, Refusal>) -> String {
-    match answer {
-        Ok(_) => "0 0".to_string(),
-        Err(refusal) => format!("{} {}", refusal.number, refusal.place),
-    }
-}
-
 fn main() {
     let mut rng = Rng::new(104);
-    let mut run = Run {
-        list: vec![0; BOOK_LEN],
-        stdin: Vec::new(),
-        stdout: String::new(),
-    };
+    let mut run = Run::new();
+    // Behind the 1,280 that are lent, nobody writes it.
+    run.set_sum(1_280, 9);
     run.unopened();
     run.computed();
     run.months();
@@ -254,5 +175,12 @@ fn main() {
     run.bad_books();
     run.large(&mut rng);
     run.random(&mut rng);
+    run.other_lengths();
+    run.below_zero();
+    run.past_64_bits();
+    run.whole_blocks();
+    run.foreign_sums();
+    run.last_unit();
+    run.random_sums(&mut rng);
     write_files(&run.stdin, &run.stdout);
 }

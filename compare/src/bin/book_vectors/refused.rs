@@ -1,6 +1,9 @@
 //! Calls that are refused: by the sheet, the building, the book.
 
 use super::*;
+use compare::cases::{two_units, water_by_volume};
+use compare::damage::put;
+use compare::samples::good_sheet;
 
 impl Run {
     /// 1 to 8, 10 and 12, the last also over a month that stands.

@@ -1,5 +1,6 @@
 //! Wrong readings of "Year book".
 
+use super::sums;
 use crate::book::*;
 use crate::refusal::*;
 use crate::settle::{settle_bytes, Outcome};
@@ -52,9 +53,9 @@ pub fn zeroed(list: &mut [u32]) -> &mut [u32] {
 }
 
 /// What opening does besides.
-pub fn after_opening(list: &mut [u32], sheet: &[u8]) {
+pub fn after_opening(list: &mut [u32], sums: &mut [u64], sheet: &[u8]) {
     if misread(OpeningPosts) {
-        let _ = post(list, sheet);
+        let _ = post(list, sums, sheet);
     }
 }
 
@@ -153,17 +154,21 @@ pub fn place_first(list: &[u32], place: u32) -> Result<(), Refusal> {
     refuse_if(misread(YearPlaceFirst) && beyond, NO_SUCH_UNIT)
 }
 
-/// 15, 13 and 18 in another order.
-pub fn before_year_list(list: &[u32], place: u32, fits: bool) -> Result<(), Refusal> {
+/// 15, 13, 18 and 19 in another order.
+pub fn before_year_list(list: &[u32], sums: &[u64], place: u32, fits: bool) -> Result<(), Refusal> {
     match current() {
         Some(YearPlaceFirst) => place_first(list, place),
         Some(YearListFirst) => refuse_if(!fits, BUFFER_LENGTH),
-        Some(YearListLast) => year(list, place).map(|_| ()),
+        Some(YearListLast) => year(list, sums, place).map(|_| ()),
+        Some(SumsBeforeTotals) => {
+            check_book(list)?;
+            check_sums(sums)
+        }
         _ => Ok(()),
     }
 }
 
-/// The place that the year call sums, or nothing where 18 refuses it.
+/// The place that the year call reads, or nothing where 18 refuses it.
 pub fn year_place(list: &[u32], place: u32) -> Option<Option<u32>> {
     let count = list[UNIT_COUNT];
     match current()? {
@@ -173,24 +178,16 @@ pub fn year_place(list: &[u32], place: u32) -> Option<Option<u32>> {
     }
 }
 
-/// Whether a month is summed.
-pub fn month_summed(list: &[u32], index: usize) -> Option<bool> {
-    match current()? {
-        YearOfMeters => Some(list[METERS + index] > 0),
-        YearOfAllMonths => Some(true),
-        _ => None,
-    }
-}
-
 /// The year call's answer, bent.
-pub fn year_answer(list: &[u32], mut answer: YearSums) -> YearSums {
+pub fn year_answer(list: &[u32], sums: &[u64], place: u32, mut answer: YearSums) -> YearSums {
     match current() {
         Some(YearTwelve) => answer.months = 12,
-        Some(YearOfAllMonths) => {
-            answer.months = list[MARKS..METERS].iter().sum();
+        Some(YearOfMeters) => {
+            let meters = list[METERS..BILLS].iter().filter(|&&meter| meter > 0);
+            answer.months = meters.count() as u32;
         }
         Some(YearIn32Bits) => answer.sums = answer.sums.map(|sum| sum & 0xffff_ffff),
-        _ => {}
+        _ => answer.sums = sums::read(list, sums, place).unwrap_or(answer.sums),
     }
     answer
 }

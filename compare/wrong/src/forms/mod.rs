@@ -12,4 +12,5 @@ pub mod refusals;
 pub mod rules;
 pub mod sheet;
 pub mod splits;
+pub mod sums;
 pub mod water;
