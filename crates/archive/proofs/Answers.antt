@@ -20,7 +20,8 @@ use Rattle.sheet.proofs.Fits.{fits}
 use Rattle.month.specs.Month.{settled, statementOf, monthOf, monthRules, settledSheet}
 use Rattle.settlement.specs.Settle.{settleAnswer, statementAfter}
 use Rattle.settlement.proofs.Parts.{lent-length}
-use Rattle.settlement.proofs.Answers.{orElse, first-of-both, settled-in-order, answer-is, settles, statement-is}
+use Rattle.sheet.proofs.Rules.{orElse, first-of-both}
+use Rattle.settlement.proofs.Answers.{settled-in-order, answer-is, settles, statement-is}
 use Rattle.archive.specs.Record.{archiveRecord}
 use Rattle.archive.specs.Reader.{body, sheetLength, headOf, bodyRules, readRules, readOutcome}
 use Rattle.archive.specs.declared.head.Head.the-variants.{Wrong, Right}

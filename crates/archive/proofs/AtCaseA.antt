@@ -13,7 +13,7 @@ use Rattle.sheet.specs.declared.rule_set.RuleSet.{RuleSet}
 use Rattle.sheet.specs.declared.rule_set.RuleSet.the-variants.{Archive1, Archive2}
 use Rattle.sheet.specs.RuleSets.{archiveVersion}
 use Rattle.sheet.specs.Layout.{unitRow, rows, sheetOf, inBytes}
-use Rattle.sheet.specs.Check.{headerTests, rowTests, rowRules, sheetRules}
+use Rattle.sheet.specs.Check.{headerTests, rowTests, fieldRules, rowRules, sheetRules}
 use Rattle.sheet.specs.Cases.Samples.{put, unitBytes, joined, sheetBytes, caseA}
 use Rattle.month.specs.Weights.{allMetered, meteredSum, hasPool, totalArea, unreadWeight, unreadWeights, poolWeight, readingSum, readArea, readSurface, areaWeight, surfaceWeight, readWeight, readWeights, unitsOfClass, litresOfClass1, personsOfClass2, waterWeight}
 use Rattle.month.specs.Steps.{splitBy, inUnitOrder, unitByUnit, hotWater, spaceHeat, heatParts, poolShares, readShares, heat, commonHeat, waterParts, water, commonWater, energies}
@@ -41,7 +41,7 @@ record Computed (rules : RuleSet) : Type 0 where
 computed : (rules : RuleSet) → Computed rules
 unfolding monthA damaged statementA recordA
     unitBytes joined sheetBytes inBytes archiveRecord headAmong bodyRules readRules readOutcome
-    sharesBy all any firstRefusal unitRow rows sheetOf headerTests rowTests rowRules sheetRules
+    sharesBy all any firstRefusal unitRow rows sheetOf headerTests rowTests fieldRules rowRules sheetRules
     allMetered meteredSum hasPool totalArea unreadWeight unreadWeights poolWeight readingSum readArea readSurface areaWeight surfaceWeight readWeight readWeights unitsOfClass litresOfClass1 personsOfClass2 waterWeight
     splitBy inUnitOrder unitByUnit hotWater spaceHeat heatParts poolShares readShares heat commonHeat waterParts water commonWater energies
     hotWaterWh spaceHeatWh zeroWaterDivisor zeroDivisor monthRules billCents costs fourAndFour statementOf monthOf settleRules settledSheet

@@ -2,14 +2,14 @@
 use Prim.Native.Nat.{_≤_}
 use native.Mathlib.Omega.{arith}
 use Rattle.sheet.specs.declared.refusal.Refusal.{Refusal}
-use Rattle.sheet.specs.declared.refusal.Refusal.the-variants.{TooShort, BadMagic, UnsupportedVersion, HeaderField, WrongLength, RowField, IdOrder, HotWaterExceedsMeter, ZeroDivisor, NoReadings, MetersExceedHeat, UnmeteredExceedsHeat, BufferLength, BadArchive, BadYearBook, OtherBuilding, MonthState, NoSuchUnit, BadYearSums}
+use Rattle.sheet.specs.declared.refusal.Refusal.the-variants.{TooShort, BadMagic, UnsupportedVersion, HeaderField, WrongLength, RowField, IdOrder, HotWaterExceedsMeter, ZeroDivisor, NoReadings, MetersExceedHeat, UnmeteredExceedsHeat, BufferLength, BadArchive, BadYearBook, OtherBuilding, MonthState, NoSuchUnit, BadYearSums, FieldConflict}
 use Rattle.sheet.specs.Refusals.{numberOf}
 
-pub number-le : (r : Refusal) → numberOf r ≤ 19
+pub number-le : (r : Refusal) → numberOf r ≤ 20
 number-le TooShort = omega arith
 number-le BadMagic = omega arith
 number-le UnsupportedVersion = omega arith
-number-le HeaderField = omega arith
+number-le (HeaderField k) = omega arith
 number-le WrongLength = omega arith
 number-le (RowField i) = omega arith
 number-le (IdOrder i) = omega arith
@@ -25,3 +25,4 @@ number-le OtherBuilding = omega arith
 number-le MonthState = omega arith
 number-le NoSuchUnit = omega arith
 number-le BadYearSums = omega arith
+number-le (FieldConflict i) = omega arith

@@ -1,7 +1,6 @@
 -- The answer for any bytes: 1 to 7, then 8 to 12; then 13. Assumes nothing.
 use mathlib.Core.Path.{_≡_, refl, sym, ap, _∙_}
-use mathlib.Core.Bool.{true, false}
-use mathlib.Core.List.{List, [], _∷_, _++_}
+use mathlib.Core.List.{List}
 use Prim.Native.Nat.{ℕ, _*_}
 use native.Mathlib.Omega.{arith}
 use borrow.Author.Tests.{eq-eqb, ne-eqb}
@@ -10,7 +9,8 @@ use Rattle.sheet.specs.declared.refusal.Refusal.{Refusal}
 use Rattle.sheet.specs.declared.refusal.Refusal.the-variants.{BufferLength}
 use Rattle.sheet.specs.declared.refusal.Outcome.{Outcome}
 use Rattle.sheet.specs.declared.refusal.Outcome.the-variants.{Accepted, Refused}
-use Rattle.sheet.specs.Refusals.{Rule, _⇒_, firstRefusal}
+use Rattle.sheet.specs.Refusals.{firstRefusal}
+use Rattle.sheet.proofs.Rules.{orElse, first-of-both}
 use Rattle.sheet.specs.declared.rule_set.RuleSet.{RuleSet}
 use Rattle.sheet.specs.Layout.{sheetOf}
 use Rattle.sheet.specs.Check.{sheetRules, checked}
@@ -18,16 +18,6 @@ use Rattle.month.specs.Month.{settled, statementOf, monthOf, monthRules, settle
 use Rattle.settlement.specs.Settle.{answerOf, settleAnswer, statementAfter}
 
 -- ---- 1 to 12
-abbrev pub orElse : Outcome → Outcome → Outcome
-orElse Accepted o = o
-orElse (Refused r) o = Refused r
-
-pub first-of-both : (xs ys : List Rule) → firstRefusal (xs ++ ys) ≡ orElse (firstRefusal xs) (firstRefusal ys)
-unfolding firstRefusal
-first-of-both [] ys = refl
-first-of-both ((true ⇒ r) ∷ xs) ys = refl
-first-of-both ((false ⇒ r) ∷ xs) ys = first-of-both xs ys
-
 pub settled-in-order : (rules : RuleSet) (bytes : List ℕ) → settledSheet rules bytes ≡ unlessRefused (orElse (checked 32 bytes) (firstRefusal (monthRules (sheetOf bytes)))) (monthOf rules (sheetOf bytes))
 unfolding settledSheet settleRules checked
 settled-in-order rules bytes = ap (λ (o : Outcome). unlessRefused o (monthOf rules (sheetOf bytes))) (first-of-both (sheetRules 32 bytes) (monthRules (sheetOf bytes)))

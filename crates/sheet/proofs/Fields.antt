@@ -1,15 +1,18 @@
 -- Where the fields stand: what the reads of header and rows by a field's number use. Assumes nothing.
 use mathlib.Core.Path.{_≡_, refl, sym, ap, subst, _∙_}
-use mathlib.Core.Bool.{Bool}
+use mathlib.Core.Bool.{Bool, true, false}
 use mathlib.Core.List.{List, [], _∷_}
 use Prim.Native.Nat.{ℕ, zero, suc, _+_, _*_, _-_, _≤_, _<_}
 use native.Mathlib.Omega.{arith}
-use borrow.Author.Tests.{le-leb, lt-leb}
+use borrow.Author.Tests.{le-leb, lt-leb, leb-true, leb-false}
+use lib.Dec.{leb}
 use lib.ListN.{length, take, drop}
 use lib.Seq.{getD-take, getD-drop}
 use Rattle.sheet.specs.Tests.{if_then_else_}
 use Rattle.sheet.specs.Layout.{unitRow, sheetOf, byte, le16, le32}
+use Rattle.sheet.specs.Check.{headerTests}
 use Rattle.sheet.specs.Inner.Fields.{unitRowAt, rowField, headerField, fieldAt}
+use Rattle.sheet.specs.Inner.FieldRanges.{headerOffset}
 
 -- ---- a fact of each of the n numbers from a on
 abbrev Span : (ℕ → Type 0) → ℕ → ℕ → Type 0
@@ -59,21 +62,46 @@ module _ (bytes : List ℕ) (at : ℕ) where
     pub outside : length bytes < at + 32 → 0 ≡ fieldAt bytes at k
     outside h = sym (ap (λ (t : Bool). if t then rowField (unitRowAt bytes at) k else 0) (lt-leb _ _ h))
 
--- ---- the header's fields
-module _ (bytes : List ℕ) (k : ℕ) where
-  pub header-byte : k < 2 → byte bytes (6 + k) ≡ headerField (sheetOf bytes) k
-  unfolding sheetOf
-  header-byte h = in-span (λ (k : ℕ). byte bytes (6 + k) ≡ headerField (sheetOf bytes) k) 0 2 k (refl, (refl, tt)) (omega arith) h
+-- ---- the header's fields: where they start, and their numbers
+module _ (k : ℕ) where
+  pub offset-first : k ≤ 2 → 6 + k ≡ headerOffset k
+  unfolding headerTests
+  offset-first h = in-span (λ (k : ℕ). 6 + k ≡ headerOffset k) 0 3 k (refl, (refl, (refl, tt))) (omega arith) (omega arith)
 
-  pub header-later-byte : 3 ≤ k → k < 9 → byte bytes (7 + k) ≡ headerField (sheetOf bytes) k
-  unfolding sheetOf
-  header-later-byte l h = in-span (λ (k : ℕ). byte bytes (7 + k) ≡ headerField (sheetOf bytes) k) 3 6 k (refl, (refl, (refl, (refl, (refl, (refl, tt)))))) l h
+  pub offset-byte : 3 ≤ k → k < 9 → 7 + k ≡ headerOffset k
+  unfolding headerTests
+  offset-byte l h = in-span (λ (k : ℕ). 7 + k ≡ headerOffset k) 3 6 k (refl, (refl, (refl, (refl, (refl, (refl, tt)))))) l h
 
-  pub header-le32 : 9 ≤ k → k < 17 → le32 bytes (4 * k - 20) ≡ headerField (sheetOf bytes) k
-  unfolding sheetOf
-  header-le32 l h =
-      in-span (λ (k : ℕ). le32 bytes (4 * k - 20) ≡ headerField (sheetOf bytes) k) 9 8 k
+  pub offset-word : 9 ≤ k → k < 17 → 4 * k - 20 ≡ headerOffset k
+  unfolding headerTests
+  offset-word l h =
+      in-span (λ (k : ℕ). 4 * k - 20 ≡ headerOffset k) 9 8 k
       (refl, (refl, (refl, (refl, (refl, (refl, (refl, (refl, tt)))))))) l h
+
+  high-by : (b c : Bool) → leb k 2 ≡ b → leb 9 k ≡ c → k < 17 → headerOffset k ≤ 44
+  high-by true c e f h = omega (arith, offset-first (leb-true k 2 e))
+  high-by false true e f h = omega (arith, offset-word (leb-true 9 k f) h)
+  high-by false false e f h = omega (arith, offset-byte (leb-false k 2 e) (leb-false 9 k f))
+
+  pub offset-high : k < 17 → headerOffset k ≤ 44
+  offset-high = high-by (leb k 2) (leb 9 k) refl refl
+
+  module _ (bytes : List ℕ) where
+    pub header-byte : k < 9 → (k ≡ 2 → ⊥) → byte bytes (headerOffset k) ≡ headerField (sheetOf bytes) k
+    unfolding sheetOf headerTests
+    header-byte h ne =
+        in-span (λ (k : ℕ). (k ≡ 2 → ⊥) → byte bytes (headerOffset k) ≡ headerField (sheetOf bytes) k) 0 9 k
+        (λ _. refl, (λ _. refl, (λ ne. absurd (ne refl), (λ _. refl, (λ _. refl, (λ _. refl, (λ _. refl, (λ _. refl, (λ _. refl, tt))))))))) (omega arith) h ne
+
+    pub header-le16 : k ≡ 2 → le16 bytes (headerOffset k) ≡ headerField (sheetOf bytes) k
+    unfolding sheetOf headerTests
+    header-le16 e = subst (λ (k : ℕ). le16 bytes (headerOffset k) ≡ headerField (sheetOf bytes) k) (sym e) refl
+
+    pub header-le32 : 9 ≤ k → k < 17 → le32 bytes (headerOffset k) ≡ headerField (sheetOf bytes) k
+    unfolding sheetOf headerTests
+    header-le32 l h =
+        in-span (λ (k : ℕ). le32 bytes (headerOffset k) ≡ headerField (sheetOf bytes) k) 9 8 k
+        (refl, (refl, (refl, (refl, (refl, (refl, (refl, (refl, tt)))))))) l h
 
 -- ---- the first four bytes
 pub four-bytes : (bytes : List ℕ) → 4 ≤ length bytes → take 4 bytes ≡ byte bytes 0 ∷ byte bytes 1 ∷ byte bytes 2 ∷ byte bytes 3 ∷ []

@@ -61,7 +61,7 @@ rows-append (suc n) xs ys h =
     (ap (rows n) (drop-append-le 32 xs ys (omega arith)) ∙ rows-append n (drop 32 xs) ys (omega (arith, length-drop 32 xs)))
 
 module _ (xs ys : List ℕ) where
-  byte-append : (at : ℕ) → at < length xs → byte (xs ++ ys) at ≡ byte xs at
+  pub byte-append : (at : ℕ) → at < length xs → byte (xs ++ ys) at ≡ byte xs at
   byte-append at h = List·getD-append xs ys 0 at h
 
   pub le16-append : (at : ℕ) → at + 1 < length xs → le16 (xs ++ ys) at ≡ le16 xs at

@@ -8,12 +8,13 @@ use native.Mathlib.Omega.{arith}
 use lib.Dec.{eqb}
 use borrow.Author.Tests.{lt-ltb, le-ltb, eq-eqb, ne-eqb}
 use lib.ListN.{length, length-append}
-use Rattle.sheet.specs.declared.refusal.Outcome.the-variants.{Refused}
-use Rattle.sheet.specs.declared.refusal.Refusal.the-variants.{TooShort, BadMagic, UnsupportedVersion, HeaderField, WrongLength}
-use Rattle.sheet.specs.Tests.{all}
+use Rattle.sheet.specs.declared.refusal.Refusal.{Refusal}
+use Rattle.sheet.specs.declared.refusal.Outcome.the-variants.{Accepted, Refused}
+use Rattle.sheet.specs.declared.refusal.Refusal.the-variants.{TooShort, BadMagic, UnsupportedVersion, WrongLength}
 use Rattle.sheet.specs.Refusals.{Rule, _⇒_, firstRefusal}
 use Rattle.sheet.specs.Layout.{Sheet, sheetOf}
-use Rattle.sheet.specs.Check.{passes, checked, sheetRules, headerTests, rowRules, sameList}
+use Rattle.sheet.specs.Check.{checked, sheetRules, headerTests, headerRule, rowRules, sameList}
+use Rattle.sheet.proofs.Rules.{first-refused, first-accepted}
 use Rattle.sheet.proofs.Units.{sheet-append}
 
 module _ (width : ℕ) (bytes : List ℕ) where
@@ -32,18 +33,27 @@ module _ (width : ℕ) (bytes : List ℕ) where
       bad-version h = rw (le-ltb _ _ long, magic, ne-eqb _ _ h)
 
       module _ (version : sheetOf bytes .version ≡ 1) where
-        pub bad-header : all (map passes (headerTests (sheetOf bytes))) ≡ false → checked width bytes ≡ Refused HeaderField
-        unfolding checked sheetRules firstRefusal
-        bad-header e = rw (le-ltb _ _ long, magic, eq-eqb _ _ version, e)
+        abbrev headerRules : List Rule
+        headerRules = map headerRule (headerTests (sheetOf bytes))
 
-        module _ (header : all (map passes (headerTests (sheetOf bytes))) ≡ true) where
+        abbrev behind : List Rule
+        behind = (not (eqb (length bytes) (48 + width * sheetOf bytes .unitCount)) ⇒ WrongLength) ∷ rowRules (sheetOf bytes) 0 none (sheetOf bytes .units)
+
+        to-header : checked width bytes ≡ firstRefusal (headerRules ++ behind)
+        unfolding checked sheetRules firstRefusal
+        to-header = rw (le-ltb _ _ long, magic, eq-eqb _ _ version)
+
+        pub bad-header : {r : Refusal} → firstRefusal headerRules ≡ Refused r → checked width bytes ≡ Refused r
+        bad-header e = to-header ∙ first-refused headerRules behind e
+
+        module _ (header : firstRefusal headerRules ≡ Accepted) where
           pub bad-length : (length bytes ≡ 48 + width * sheetOf bytes .unitCount → ⊥) → checked width bytes ≡ Refused WrongLength
-          unfolding checked sheetRules firstRefusal
-          bad-length h = rw (le-ltb _ _ long, magic, eq-eqb _ _ version, header, ne-eqb _ _ h)
+          unfolding firstRefusal
+          bad-length h = to-header ∙ first-accepted headerRules behind header ∙ rw (ne-eqb _ _ h)
 
           pub by-rows : length bytes ≡ 48 + width * sheetOf bytes .unitCount → checked width bytes ≡ firstRefusal (rowRules (sheetOf bytes) 0 none (sheetOf bytes .units))
-          unfolding checked sheetRules firstRefusal
-          by-rows h = rw (le-ltb _ _ long, magic, eq-eqb _ _ version, header, eq-eqb _ _ h)
+          unfolding firstRefusal
+          by-rows h = to-header ∙ first-accepted headerRules behind header ∙ rw (eq-eqb _ _ h)
 
 -- ---- a record part is checked as its sheet alone
 abbrev rulesBy : Bool → Bool → Sheet → List Rule
@@ -51,8 +61,8 @@ rulesBy short fits s =
     (short ⇒ TooShort)
     ∷ (not (sameList (s .magic) (72 ∷ 67 ∷ 83 ∷ 0 ∷ [])) ⇒ BadMagic)
     ∷ (not (eqb (s .version) 1) ⇒ UnsupportedVersion)
-    ∷ (not (all (map passes (headerTests s))) ⇒ HeaderField)
-    ∷ (not fits ⇒ WrongLength)
+    ∷ map headerRule (headerTests s)
+    ++ (not fits ⇒ WrongLength)
     ∷ rowRules s 0 none (s .units)
 
 pub part-checked : (xs ys : List ℕ) → length xs ≡ 48 + 32 * sheetOf xs .unitCount → length ys ≡ 32 * sheetOf xs .unitCount → checked 64 (xs ++ ys) ≡ checked 32 xs

@@ -1,20 +1,20 @@
--- Refusals: their numbers, their places and their order (document 01, "Refused sheets and calls").
+-- Refusals: their numbers, their places and their order (document 01, "Refused sheets and calls", and document 02).
 use mathlib.Core.Bool.{Bool, true, false}
 use mathlib.Core.List.{List, [], _∷_}
 use Prim.Native.Nat.{ℕ}
 use Rattle.sheet.specs.declared.refusal.Refusal.{Refusal}
 use Rattle.sheet.specs.declared.refusal.Refusal.the-variants.{TooShort, BadMagic, UnsupportedVersion, HeaderField, WrongLength, RowField, IdOrder}
 use Rattle.sheet.specs.declared.refusal.Refusal.the-variants.{HotWaterExceedsMeter, ZeroDivisor, NoReadings, MetersExceedHeat, UnmeteredExceedsHeat}
-use Rattle.sheet.specs.declared.refusal.Refusal.the-variants.{BufferLength, BadArchive, BadYearBook, OtherBuilding, MonthState, NoSuchUnit, BadYearSums}
+use Rattle.sheet.specs.declared.refusal.Refusal.the-variants.{BufferLength, BadArchive, BadYearBook, OtherBuilding, MonthState, NoSuchUnit, BadYearSums, FieldConflict}
 use Rattle.sheet.specs.declared.refusal.Outcome.{Outcome}
 use Rattle.sheet.specs.declared.refusal.Outcome.the-variants.{Accepted, Refused}
 
--- the document's number, with the trade's word
+-- the document's number, with the trade's word. Wherever 1 to 7 or 1 to 12 is named, 20 goes along with 6 (2026-03).
 abbrev pub numberOf : Refusal → ℕ
 numberOf TooShort = 1  -- stub
 numberOf BadMagic = 2  -- mark
 numberOf UnsupportedVersion = 3  -- version
-numberOf HeaderField = 4  -- header
+numberOf (HeaderField k) = 4  -- header
 numberOf WrongLength = 5  -- length
 numberOf (RowField i) = 6  -- row
 numberOf (IdOrder i) = 7  -- order
@@ -30,13 +30,14 @@ numberOf OtherBuilding = 16  -- building
 numberOf MonthState = 17  -- month
 numberOf NoSuchUnit = 18  -- place
 numberOf BadYearSums = 19  -- sums (2026-02)
+numberOf (FieldConflict i) = 20  -- clash (2026-03)
 
--- the place: the row from 0 for 6 and 7, else 0
+-- the place: the row from 0 for 6, 7 and 20; the header field's first byte in the sheet for 4 (2026-03); else 0
 abbrev pub placeOf : Refusal → ℕ
 placeOf TooShort = 0
 placeOf BadMagic = 0
 placeOf UnsupportedVersion = 0
-placeOf HeaderField = 0
+placeOf (HeaderField k) = k
 placeOf WrongLength = 0
 placeOf (RowField i) = i
 placeOf (IdOrder i) = i
@@ -52,6 +53,7 @@ placeOf OtherBuilding = 0
 placeOf MonthState = 0
 placeOf NoSuchUnit = 0
 placeOf BadYearSums = 0
+placeOf (FieldConflict i) = i
 
 -- A rule `condition ⇒ refusal`.
 infix 20 _⇒_

@@ -1,4 +1,4 @@
-// The check of a sheet: refusals 1 to 7 (document 01, "Refused sheets and calls").
+// The check of a sheet: refusals 1 to 7 and 20 (document 01, "Refused sheets and calls"; 2026-03).
 ghost use mathlib.Core.Path.{_≡_};
 ghost use mathlib.Core.Option.{none};
 ghost use Prim.Native.Nat.{_+_, _*_, _≤_, _<_};
@@ -47,7 +47,7 @@ fn not_above(s: &[u8], i: usize) -> bool
     unit_field(s, i, rows::ID) <= unit_field(s, i - 1, rows::ID)
 }
 
-// 6 and 7: rows, and in a row its fields, in layout order, left at the first fault.
+// 6, 20 and 7: rows, and in a row its fields, in layout order, left at the first fault.
 fn check_rows(s: &[u8], n: usize) -> Outcome
     requires { ⌜ (n ≡ sheetOf (now s) .unitCount) × ((n ≤ 160) × (48 + 32 * n ≤ length (now s))) ⌝ }
     ensures { λ r. ⌜ r ≡ firstRefusal (rowRules (sheetOf (now (s .entry))) 0 none (sheetOf (now (s .entry)) .units)) ⌝ }
@@ -58,8 +58,9 @@ fn check_rows(s: &[u8], n: usize) -> Outcome
         let ranges = ranges::row_ranges(s, i, limits);
         for k in 0..10usize {
             let range = ranges[k];
-            if !ranges::within(unit_field(s, i, k + rows::STATUS), range) {
-                found = Outcome::Refused(Refusal::RowField(i as u32));
+            let x = unit_field(s, i, k + rows::STATUS);
+            if !ranges::within(x, range) {
+                found = Outcome::Refused(ranges::field_refusal(x, k, i as u32));
                 break 'rows;
             }
         }
@@ -85,9 +86,10 @@ fn check(s: &[u8], width: usize) -> Outcome
     if bytes::read16(s, 4) != 1 {
         return Outcome::Refused(Refusal::UnsupportedVersion);
     }
-    if !header::header_fits(s) {
-        return Outcome::Refused(Refusal::HeaderField);
-    }
+    let outcome = header::check_header(s);
+    let Outcome::Accepted = outcome else {
+        return outcome;
+    };
     let n = header_field(s, header::UNIT_COUNT) as usize;
     if s.len() != 48 + width * n {
         return Outcome::Refused(Refusal::WrongLength);

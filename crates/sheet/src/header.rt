@@ -3,12 +3,15 @@ ghost use mathlib.Core.Path.{_≡_};
 ghost use mathlib.Core.List.{map};
 ghost use Prim.Native.Nat.{_≤_, _<_};
 ghost use lib.ListN.{length};
-ghost use Rattle.sheet.specs.Tests.{all};
+ghost use Rattle.sheet.specs.Refusals.{firstRefusal};
 ghost use Rattle.sheet.specs.Layout.{sheetOf};
+ghost use Rattle.sheet.specs.Check.{headerTests, headerRule};
 ghost use Rattle.sheet.specs.Inner.Fields.{headerField};
-ghost use Rattle.sheet.specs.Check.{passes, headerTests};
+ghost use Rattle.sheet.specs.Inner.FieldRanges.{headerOffset};
 use crate::bytes;
 use crate::ranges;
+use crate::refusal::Outcome;
+use crate::refusal::Refusal;
 
 pub const MONTH: usize = 0;
 
@@ -35,33 +38,45 @@ pub const PRICE: usize = 10;
 // h1; h2 to h6 follow.
 pub const WATER_READING: usize = 11;
 
+// The first byte of field k in the sheet.
+fn offset(k: usize) -> usize
+    requires { ⌜ k < 17 ⌝ }
+    ensures { λ r. ⌜ r ≡ headerOffset k ⌝ }
+{
+    if k <= UNIT_COUNT {
+        return 6 + k;
+    }
+    if k < SHARED_METER {
+        return 7 + k;
+    }
+    4 * k - 20
+}
+
 pub fn header_field(s: &[u8], k: usize) -> u32
     requires { ⌜ (48 ≤ length (now s)) × (k < 17) ⌝ }
     ensures { λ r. ⌜ r ≡ headerField (sheetOf (now (s .entry))) k ⌝ }
 {
-    if k < UNIT_COUNT {
-        return bytes::read8(s, 6 + k);
-    }
+    let at = offset(k);
     if k == UNIT_COUNT {
-        return bytes::read16(s, 8);
+        return bytes::read16(s, at);
     }
     if k < SHARED_METER {
-        return bytes::read8(s, 7 + k);
+        return bytes::read8(s, at);
     }
-    bytes::read32(s, 4 * k - 20)
+    bytes::read32(s, at)
 }
 
-// 4: every field is within its range.
-pub(crate) fn header_fits(s: &[u8]) -> bool
+// 4: the first field that isn't within its range.
+pub(crate) fn check_header(s: &[u8]) -> Outcome
     requires { ⌜ 48 ≤ length (now s) ⌝ }
-    ensures { λ r. ⌜ r ≡ all (map passes (headerTests (sheetOf (now (s .entry))))) ⌝ }
+    ensures { λ r. ⌜ r ≡ firstRefusal (map headerRule (headerTests (sheetOf (now (s .entry))))) ⌝ }
 {
     let ranges = ranges::header_ranges(s);
     for k in 0..17usize {
         let range = ranges[k];
         if !ranges::within(header_field(s, k), range) {
-            return false;
+            return Outcome::Refused(Refusal::HeaderField(offset(k) as u32));
         }
     }
-    true
+    Outcome::Accepted
 }

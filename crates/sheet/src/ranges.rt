@@ -1,5 +1,6 @@
 // Lowest and highest value of each field (document 01, "The sheet").
 ghost use mathlib.Core.Path.{_≡_};
+ghost use mathlib.Core.List.{map};
 ghost use Prim.Native.Nat.{_+_, _*_, _≤_, _<_};
 ghost use lib.Dec.{eqb};
 ghost use lib.ListN.{length};
@@ -7,9 +8,10 @@ ghost use Rattle.sheet.specs.Layout.{sheetOf};
 ghost use Rattle.sheet.specs.Check.{passes, _within_, _to_, entry, headerTests, rowTests};
 ghost use Rattle.sheet.specs.Tests.{if_then_else_};
 ghost use Rattle.sheet.specs.Inner.Fields.{unitOf};
-ghost use Rattle.sheet.specs.Inner.FieldRanges.{rangesOf, LimitsOf};
+ghost use Rattle.sheet.specs.Inner.FieldRanges.{headerRange, allowed, rowRanges, refusalBy, LimitsOf};
 use crate::header;
 use crate::header::header_field;
+use crate::refusal::Refusal;
 use crate::rows;
 use crate::rows::unit_field;
 use crate::tables;
@@ -61,7 +63,7 @@ fn by_class(table: [Range; 3], class: u32) -> Range
 // The header's fields, in layout order.
 pub fn header_ranges(s: &[u8]) -> [Range; 17]
     requires { ⌜ 48 ≤ length (now s) ⌝ }
-    ensures { λ r. ⌜ r ≡ rangesOf (headerTests (sheetOf (now (s .entry)))) ⌝ }
+    ensures { λ r. ⌜ r ≡ map headerRange (headerTests (sheetOf (now (s .entry)))) ⌝ }
 {
     let model = header_field(s, header::MODEL);
     let source = header_field(s, header::WATER_SOURCE);
@@ -117,10 +119,10 @@ fn if_read(status: u32, reading: Range) -> Range
     if status == 0 { reading } else { tables::ZERO }
 }
 
-// The fields of row i after the id, in layout order.
+// What is allowed in the fields of row i after the id, in layout order.
 pub fn row_ranges(s: &[u8], i: usize, limits: RowLimits) -> [Range; 10]
     requires { ⌜ (i < sheetOf (now s) .unitCount) × (80 + 32 * i ≤ length (now s)) × LimitsOf (sheetOf (now s)) limits ⌝ }
-    ensures { λ r. ⌜ r ≡ rangesOf (rowTests (sheetOf (now (s .entry))) (unitOf (sheetOf (now (s .entry))) i)) ⌝ }
+    ensures { λ r. ⌜ r ≡ map allowed (rowTests (sheetOf (now (s .entry))) (unitOf (sheetOf (now (s .entry))) i)) ⌝ }
 {
     let status = unit_field(s, i, rows::STATUS);
     let class = unit_field(s, i, rows::WATER_CLASS);
@@ -130,25 +132,27 @@ pub fn row_ranges(s: &[u8], i: usize, limits: RowLimits) -> [Range; 10]
     [
         statuses,
         classes,
-        Range {
-            low: 1,
-            high: 1_000,
-        },
-        Range {
-            low: 1,
-            high: 10_000,
-        },
-        Range {
-            low: 0,
-            high: 10_000,
-        },
-        Range {
-            low: 0,
-            high: 100_000,
-        },
+        tables::LOCATION_FACTOR,
+        tables::HEATED_AREA,
+        tables::RISER_SURFACE,
+        tables::HEAT_LOAD,
         if_read(status, readings),
         by_class(tables::LITRES, class),
         by_class(tables::PERSONS, class),
         tables::ZERO,
     ]
+}
+
+// x stands in field k of a row after the id and isn't allowed there: 6 outside the field's fixed range, else 20.
+pub fn field_refusal(x: u32, k: usize, row: u32) -> Refusal
+    requires { ⌜ k < 10 ⌝ }
+    ensures { λ r. ⌜ r ≡ refusalBy (passes (x within entry rowRanges k)) row ⌝ }
+{
+    let table = tables::ROW_FIELDS;
+    let range = table[k];
+    if within(x, range) {
+        Refusal::FieldConflict(row)
+    } else {
+        Refusal::RowField(row)
+    }
 }

@@ -1,4 +1,4 @@
-// Why a sheet or a call is refused (document 01, "Refused sheets and calls", and 19 by request 2026-02). The row cases hold the row's place, from 0.
+// Why a sheet or a call is refused (document 01, "Refused sheets and calls", 19 by request 2026-02, 20 by 2026-03). The row cases hold the row's place, from 0; the header case holds the byte offset in the sheet.
 ghost use mathlib.Core.Path.{_≡_};
 ghost use Rattle.sheet.specs.Refusals.{numberOf, placeOf};
 
@@ -6,7 +6,7 @@ pub enum Refusal {
     TooShort,
     BadMagic,
     UnsupportedVersion,
-    HeaderField,
+    HeaderField(u32),
     WrongLength,
     RowField(u32),
     IdOrder(u32),
@@ -22,6 +22,7 @@ pub enum Refusal {
     MonthState,
     NoSuchUnit,
     BadYearSums,
+    FieldConflict(u32),
 }
 
 pub enum Outcome {
@@ -29,7 +30,7 @@ pub enum Outcome {
     Refused(Refusal),
 }
 
-// What a refusal tells: the document's number, and the row from 0 for 6 and 7, else 0.
+// What a refusal tells: the document's number; the row from 0 for 6, 7 and 20, the byte offset for 4, else 0.
 struct Told(u32, u32);
 
 fn told_by(r: Refusal) -> Told
@@ -39,7 +40,7 @@ fn told_by(r: Refusal) -> Told
         Refusal::TooShort => Told(1, 0),
         Refusal::BadMagic => Told(2, 0),
         Refusal::UnsupportedVersion => Told(3, 0),
-        Refusal::HeaderField => Told(4, 0),
+        Refusal::HeaderField(k) => Told(4, k),
         Refusal::WrongLength => Told(5, 0),
         Refusal::RowField(i) => Told(6, i),
         Refusal::IdOrder(i) => Told(7, i),
@@ -55,6 +56,7 @@ fn told_by(r: Refusal) -> Told
         Refusal::MonthState => Told(17, 0),
         Refusal::NoSuchUnit => Told(18, 0),
         Refusal::BadYearSums => Told(19, 0),
+        Refusal::FieldConflict(i) => Told(20, i),
     }
 }
 

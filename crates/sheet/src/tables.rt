@@ -1,4 +1,4 @@
-// Lowest and highest by model, hot-water source or water class (document 01, "The sheet").
+// Lowest and highest: of a row's fields, and by model, hot-water source or water class (document 01, "The sheet"; 2026-03).
 use crate::ranges::Range;
 
 pub const ZERO: Range = Range { low: 0, high: 0 };
@@ -37,12 +37,46 @@ const METERED_WH: Range = Range {
 
 const ANY_CLASS: Range = Range { low: 0, high: 2 };
 
+pub const LOCATION_FACTOR: Range = Range {
+    low: 1,
+    high: 1_000,
+};
+
+pub const HEATED_AREA: Range = Range {
+    low: 1,
+    high: 10_000,
+};
+
+pub const RISER_SURFACE: Range = Range {
+    low: 0,
+    high: 10_000,
+};
+
+pub const HEAT_LOAD: Range = Range {
+    low: 0,
+    high: 100_000,
+};
+
 const UNIT_LITRES: Range = Range {
     low: 0,
     high: 1_000_000,
 };
 
 const HOUSEHOLD: Range = Range { low: 0, high: 50 };
+
+// The fixed ranges of a row's fields after the id, in layout order.
+pub const ROW_FIELDS: [Range; 10] = [
+    ANY_STATUS,
+    ANY_CLASS,
+    LOCATION_FACTOR,
+    HEATED_AREA,
+    RISER_SURFACE,
+    HEAT_LOAD,
+    METERED_WH,
+    UNIT_LITRES,
+    HOUSEHOLD,
+    ZERO,
+];
 
 // By model, 1 to 5; entry 0 is no model.
 pub const BASE_PERCENT: [Range; 6] = [ZERO, ZERO, ZERO, BASE_BY_AREA, BASE_BY_SURFACE, ZERO];

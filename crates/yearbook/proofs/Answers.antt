@@ -1,9 +1,8 @@
 -- Each outcome of each call, by the tests on the way to it: what its contract says there. Assumes nothing.
 use mathlib.Core.Path.{_≡_, refl, _∙_}
 use mathlib.Core.Bool.{Bool, true, false}
-use mathlib.Core.List.{List, [], _∷_, _++_}
+use mathlib.Core.List.{List, [], _∷_}
 use Prim.Native.Nat.{ℕ, _-_, _≤_, _<_}
-use native.Mathlib.Omega.{arith}
 use borrow.Author.Tests.{lt-ltb, le-ltb, eq-eqb, ne-eqb}
 use lib.ListN.{length}
 use Rattle.sheet.specs.declared.refusal.Refusal.{Refusal}
@@ -13,6 +12,7 @@ use Rattle.sheet.specs.Refusals.{Rule, _⇒_, firstRefusal}
 use Rattle.sheet.specs.RuleSets.{newest}
 use Rattle.sheet.specs.Layout.{sheetOf}
 use Rattle.sheet.specs.Check.{sheetRules, checked}
+use Rattle.sheet.proofs.Rules.{first-refused, first-accepted}
 use Rattle.month.specs.Month.{Month, Settled, monthRules, settleRules, settledSheet}
 use Rattle.month.proofs.Laws.{settled-month}
 use Rattle.yearbook.specs.Calls.{withdraw, accepted, refused}
@@ -20,19 +20,6 @@ use Rattle.year_sums.specs.YearSums.{sumsLength, zeroSums, updated, wrongSums, 
 use Rattle.yearbook.specs.LentBook.{sumsAt}
 use Rattle.yearbook.specs.LentBook.{Lent, lent, bookLength, unitCountIn, marked, badBook, otherBuilding, blockIn, blockOf, zeroBlock, sheetCallRules, clearMonth, freshBook, openAnswer, opened, withSheet, postAnswer, posted, replaceAnswer, replaced, withdrawAnswer, withdrawn, yearRules, yearOutcome, marksIn, yearAnswer, lentReply, lentAfter, Opens, Answered, refusedTotals, totalsBy, Tells}
 use Rattle.yearbook.specs.Inner.Bring.{bringCall, wrongMonth, takenOff}
-
--- ---- rules one after the other
-first-refused : (xs ys : List Rule) {r : Refusal} → firstRefusal xs ≡ Refused r → firstRefusal (xs ++ ys) ≡ Refused r
-unfolding firstRefusal
-first-refused [] ys e = absurd (let z : _≡_ {A = ℕ} 0 1 = cc in omega arith)
-first-refused ((true ⇒ r) ∷ xs) ys e = e
-first-refused ((false ⇒ r) ∷ xs) ys e = first-refused xs ys e
-
-first-accepted : (xs ys : List Rule) → firstRefusal xs ≡ Accepted → firstRefusal (xs ++ ys) ≡ firstRefusal ys
-unfolding firstRefusal
-first-accepted [] ys e = refl
-first-accepted ((true ⇒ r) ∷ xs) ys e = absurd (let z : _≡_ {A = ℕ} 0 1 = cc in omega arith)
-first-accepted ((false ⇒ r) ∷ xs) ys e = first-accepted xs ys e
 
 -- ---- open
 module _ (l : Lent) (sheet : List ℕ) where

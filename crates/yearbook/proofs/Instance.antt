@@ -10,7 +10,7 @@ use Rattle.sheet.specs.Refusals.{firstRefusal}
 use Rattle.sheet.specs.declared.refusal.Outcome.the-variants.{Accepted}
 use Rattle.sheet.specs.RuleSets.{newest}
 use Rattle.sheet.specs.Layout.{inBytes, unitRow, rows, sheetOf}
-use Rattle.sheet.specs.Check.{headerTests, rowTests, rowRules, sheetRules, checked}
+use Rattle.sheet.specs.Check.{headerTests, rowTests, fieldRules, rowRules, sheetRules, checked}
 use Rattle.sheet.specs.Cases.Samples.{unitBytes, joined, sheetBytes}
 use Rattle.month.specs.Weights.{allMetered, meteredSum, hasPool, totalArea, unreadWeight, unreadWeights, poolWeight, readingSum, readArea, readSurface, areaWeight, surfaceWeight, readWeight, readWeights, unitsOfClass, litresOfClass1, personsOfClass2, waterWeight}
 use Rattle.month.specs.Steps.{splitBy, inUnitOrder, unitByUnit, hotWater, spaceHeat, heatParts, poolShares, readShares, heat, commonHeat, waterParts, water, commonWater, energies}
@@ -58,7 +58,7 @@ last : Lent
 last = afterAll start calls
 
 passes : checked 32 opening ≡ Accepted
-unfolding opening overcharged unitBytes joined sheetBytes inBytes all firstRefusal unitRow rows sheetOf headerTests rowTests rowRules sheetRules checked
+unfolding opening overcharged unitBytes joined sheetBytes inBytes firstRefusal unitRow rows sheetOf headerTests rowTests fieldRules rowRules sheetRules checked
 passes = refl
 
 at-calls : (cs : List Call) → YearBook opening (openAnswer sevens opening) cs (repliesOf start cs) (afterAll start cs)
@@ -95,15 +95,15 @@ record Said : Type 0 where
   -- a month of model 4, its first unit at the upper limit, 4,200 × 300 / 420 Wh
   by-risers : Near 3000 (504000000000000000000 over 168000000000000000) 4
   matches : Matches last
-  -- the lent lists of the 19th call, withdraw 1, and of the last, where january stands again
-  cleared : Left (afterAll start (take 18 calls)) (afterAll start (take 19 calls)) (withdraw 1) (numbers 0 0 0 []) ofMonth1
-  written : Left (afterAll start (take 23 calls)) last (post january) (numbers 1 1000 10 januaryNumbers) ofMonth1
+  -- the lent lists of the 20th call, withdraw 1, and of the last, where january stands again
+  cleared : Left (afterAll start (take 19 calls)) (afterAll start (take 20 calls)) (withdraw 1) (numbers 0 0 0 []) ofMonth1
+  written : Left (afterAll start (take 24 calls)) last (post january) (numbers 1 1000 10 januaryNumbers) ofMonth1
   each-accepted : repliesOf start six ≡ accepted ∷ accepted ∷ accepted ∷ accepted ∷ accepted ∷ accepted ∷ []
 
 at-run-said : Said
 unfolding calls six opening last lentAfter plainReplies run byArea byRisers overcharged oneUnit otherId unitBytes joined sheetBytes inBytes
     openedPlain stands sheetsOf nowHolds notKept brought withdrawn numberIn unitSums told called plainAfter
-    sharesBy all any firstRefusal unitRow rows sheetOf headerTests rowTests rowRules sheetRules
+    sharesBy all any firstRefusal unitRow rows sheetOf headerTests rowTests fieldRules rowRules sheetRules
     allMetered meteredSum hasPool totalArea unreadWeight unreadWeights poolWeight readingSum readArea readSurface areaWeight surfaceWeight readWeight readWeights unitsOfClass litresOfClass1 personsOfClass2 waterWeight
     splitBy inUnitOrder unitByUnit hotWater spaceHeat heatParts poolShares readShares heat commonHeat waterParts water commonWater energies
     hotWaterWh spaceHeatWh zeroWaterDivisor zeroDivisor monthRules billCents costs fourAndFour statementOf monthOf settleRules settledSheet
@@ -123,7 +123,7 @@ at-run-said =
       cent = k .cents-near 1 0 (omega arith) (omega arith);
       by-risers = at-calls (post (byRisers 3 4200) ∷ []) .kept .energy-near 0 0 (omega arith) (omega arith);
       matches = k .matches;
-      cleared = lent-lists .called .1 .0 .0 _ (ap (λ (l : List Reply). getD l 18 accepted) (at-run .same-replies));
-      written = lent-lists .called .0 .0 _ (ap (λ (l : List Reply). getD l 23 accepted) (at-run .same-replies));
+      cleared = lent-lists .called .1 .0 .0 _ (ap (λ (l : List Reply). getD l 19 accepted) (at-run .same-replies));
+      written = lent-lists .called .0 .0 _ (ap (λ (l : List Reply). getD l 24 accepted) (at-run .same-replies));
       each-accepted = at-calls six .same-replies;
     }

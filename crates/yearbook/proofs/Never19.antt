@@ -1,6 +1,6 @@
 -- 2026-02: on lists that match and show a plain book no update goes below zero or past 64 bits; the plain book never answers 19. Assumes nothing.
 use mathlib.Core.Path.{_≡_, sym, ap, subst}
-use mathlib.Core.Logic.{_≢_}
+use mathlib.Core.Logic.{_≢_, inl, inr}
 use mathlib.Core.Bool.{Bool, true, false, not, _||_}
 use mathlib.Core.List.{List, [], _∷_}
 use mathlib.Core.Option.{Option, none, some}
@@ -18,7 +18,7 @@ use Rattle.sheet.specs.Tests.{if_then_else_, Each}
 use Rattle.sheet.specs.Refusals.{firstRefusal, numberOf}
 use Rattle.sheet.specs.RuleSets.{newest}
 use Rattle.sheet.specs.Check.{_to_, _within_, passes}
-use Rattle.sheet.specs.Inner.Places.{IfRefused}
+use Rattle.sheet.specs.Inner.Places.{IfRefused, UpTo}
 use Rattle.sheet.specs.Layout.{sheetOf}
 use Rattle.sheet.proofs.Places.{sheet-first}
 use Rattle.month.specs.Month.{Settled, monthRules, settleRules, monthOf, statementOf, settledSheet, unlessRefused}
@@ -84,14 +84,15 @@ module _ {n : ℕ} {l : Lent} {p : PlainBook} (h : Shows n (l .book) p) (m : Mat
       none-of-two (le-ltb x o (omega (arith, sum, off, least))) (le-ltb most64 (x - o + getD block k 0) (omega (arith, sum, off, most, few k))))
 
 -- ---- the plain book never answers 19
-below-13 : (r : Refusal) → numberOf r ≤ 12 → r ≢ BadYearSums
-below-13 r h e = let same = ap numberOf e in omega (arith, same)
+other-than-19 : (k : ℕ) → k < 19 → (r : Refusal) → UpTo k r → r ≢ BadYearSums
+other-than-19 k l r (inl h) e = let same = ap numberOf e in omega (arith, same)
+other-than-19 k l r (inr h) e = let same = ap numberOf e in omega (arith, same)
 
 settle-never : (sheet : List ℕ) → IfRefused (λ r. r ≢ BadYearSums) (firstRefusal (settleRules sheet))
 unfolding settleRules monthRules firstRefusal
 settle-never sheet =
-    sheet-first (λ r. r ≢ BadYearSums) (λ r h _. below-13 r (omega arith)) 32 sheet (monthRules (sheetOf sheet))
-    (month-first (λ r. r ≢ BadYearSums) (λ r h _. below-13 r h) (sheetOf sheet) [] tt)
+    sheet-first (λ r. r ≢ BadYearSums) (λ r h _. other-than-19 7 (omega arith) r h) 32 sheet (monthRules (sheetOf sheet))
+    (month-first (λ r. r ≢ BadYearSums) (λ r h _. other-than-19 12 (omega arith) r h) (sheetOf sheet) [] tt)
 
 not-refused : {r : Refusal} → r ≢ BadYearSums → refused r ≢ refused BadYearSums
 not-refused d e = d cc

@@ -10,7 +10,7 @@ use Rattle.sheet.specs.declared.refusal.Outcome.the-variants.{Accepted, Refused
 use Rattle.sheet.specs.Tests.{all, any}
 use Rattle.sheet.specs.Refusals.{numberOf, placeOf, firstRefusal}
 use Rattle.sheet.specs.Layout.{unitRow, rows, sheetOf, inBytes}
-use Rattle.sheet.specs.Check.{headerTests, rowTests, rowRules, sheetRules}
+use Rattle.sheet.specs.Check.{headerTests, rowTests, fieldRules, rowRules, sheetRules}
 use Rattle.sheet.specs.Cases.Samples.{zeros, put, unitBytes, joined, sheetBytes, caseA}
 use Rattle.month.specs.Weights.{allMetered, meteredSum, hasPool, totalArea, unreadWeight, unreadWeights, poolWeight, readingSum, readArea, readSurface, areaWeight, surfaceWeight, readWeight, readWeights, unitsOfClass, litresOfClass1, personsOfClass2, waterWeight}
 use Rattle.month.specs.Steps.{splitBy, inUnitOrder, unitByUnit, hotWater, spaceHeat, heatParts, poolShares, readShares, heat, commonHeat, waterParts, water, commonWater, energies}
@@ -101,12 +101,18 @@ cases =
     ∷ (reads (recordA 3) gives refuses 14 0 [])
     ∷ (reads (put 5 1 (recordA 1)) gives refuses 14 0 [])
     ∷ (reads (put 7 1 (recordA 1)) gives refuses 14 0 [])
-    -- the sheet's, from byte 8: 1, 2, 5, 6, 12
+    -- the sheet's, from byte 8: 1, 2, 4, 5, 6, 20, 12. The place of 4 is counted from there: v, two faults, v without its model, h6
     ∷ (reads (take 8 (recordA 1)) gives refuses 1 0 [])
     ∷ (reads (put 8 0 (recordA 1)) gives refuses 2 0 [])
+    ∷ (reads (put 19 31 (recordA 1)) gives refuses 4 11 [])
+    ∷ (reads (put 14 13 (put 18 4 (recordA 1))) gives refuses 4 6 [])
+    ∷ (reads (put 15 2 (recordA 2)) gives refuses 4 11 [])
+    ∷ (reads (put 52 1 (recordA 2)) gives refuses 4 44 [])
     ∷ (reads (take 247 (recordA 1)) gives refuses 5 0 [])
     ∷ (reads (recordA 1 ++ zeros 1) gives refuses 5 0 [])
     ∷ (reads (put 124 5 (recordA 1)) gives refuses 6 2 [])
+    ∷ (reads (put 124 1 (recordA 1)) gives refuses 20 2 [])
+    ∷ (reads (put 61 1 (put 63 9 (recordA 2))) gives refuses 20 0 [])
     ∷ (reads (put 124 1 (put 141 0 (put 140 0 (recordA 1)))) gives refuses 12 0 [])
     -- 14: b of the first unit, and the statement's first, middle and last byte
     ∷ (reads (put 76 101 (recordA 1)) gives refuses 14 0 [])
@@ -118,17 +124,19 @@ cases =
     ∷ (reads (recordC 1 byArchive2) gives refuses 14 0 [])
     ∷ (reads (recordC 2 byArchive1) gives refuses 14 0 [])
     ∷ (reads (recordC 2 byArchive2) gives accepts (risersC 50 1000))
-    -- written; 13 on a list of another length; 5 before 13
+    -- written; 13 on a list of another length; 5, 4 and 20 before 13
     ∷ (writes caseA (zeros 248) gives accepts (recordA 2))
     ∷ (writes (risersC 50 1000) (zeros 248) gives accepts (recordC 2 byArchive2))
     ∷ (writes caseA (7 ∷ zeros 246) gives refuses 13 0 (7 ∷ zeros 246))
     ∷ (writes (take 143 caseA) (7 ∷ []) gives refuses 5 0 (7 ∷ []))
+    ∷ (writes (put 14 36 caseA) (7 ∷ []) gives refuses 4 14 (7 ∷ []))
+    ∷ (writes (put 84 1 caseA) (7 ∷ []) gives refuses 20 1 (7 ∷ []))
     ∷ []
 
 pub all-cases : map given cases ≡ map expected cases
 unfolding cases statementA recordA risers risersC byArchive1 byArchive2 recordC reads writes
     unitBytes joined sheetBytes inBytes archiveRecord headAmong bodyRules readRules readOutcome writeAnswer recordAfter
-    sharesBy all any firstRefusal unitRow rows sheetOf headerTests rowTests rowRules sheetRules
+    sharesBy all any firstRefusal unitRow rows sheetOf headerTests rowTests fieldRules rowRules sheetRules
     allMetered meteredSum hasPool totalArea unreadWeight unreadWeights poolWeight readingSum readArea readSurface areaWeight surfaceWeight readWeight readWeights unitsOfClass litresOfClass1 personsOfClass2 waterWeight
     splitBy inUnitOrder unitByUnit hotWater spaceHeat heatParts poolShares readShares heat commonHeat waterParts water commonWater energies
     hotWaterWh spaceHeatWh zeroWaterDivisor zeroDivisor monthRules billCents costs fourAndFour statementOf monthOf settleRules settledSheet

@@ -6,7 +6,7 @@ use lib.ListN.{replicate}
 use Rattle.sheet.specs.declared.refusal.Refusal.{Refusal}
 use Rattle.sheet.specs.declared.refusal.Refusal.the-variants.{TooShort, BadMagic, UnsupportedVersion, HeaderField, WrongLength, RowField, IdOrder}
 use Rattle.sheet.specs.declared.refusal.Refusal.the-variants.{HotWaterExceedsMeter, ZeroDivisor, NoReadings, MetersExceedHeat, UnmeteredExceedsHeat}
-use Rattle.sheet.specs.declared.refusal.Refusal.the-variants.{BufferLength, BadArchive, BadYearBook, OtherBuilding, MonthState, NoSuchUnit, BadYearSums}
+use Rattle.sheet.specs.declared.refusal.Refusal.the-variants.{BufferLength, BadArchive, BadYearBook, OtherBuilding, MonthState, NoSuchUnit, BadYearSums, FieldConflict}
 use Rattle.sheet.specs.declared.refusal.Outcome.the-variants.{Accepted, Refused}
 use Rattle.sheet.specs.Tests.{any}
 use Rattle.sheet.specs.Refusals.{firstRefusal}
@@ -14,21 +14,21 @@ use Rattle.yearbook.specs.LentBook.{Lent, lent, badBook, yearRules}
 use Rattle.heatcost.specs.Answer.{answerNumber}
 use Rattle.heatcost.specs.Year.{yearListAnswer}
 
--- the refusals from 1 to 19, those of a row at place 0
+-- the refusals from 1 to 20, those with a place at place 0
 refusals : List Refusal
 refusals =
-    TooShort ∷ BadMagic ∷ UnsupportedVersion ∷ HeaderField ∷ WrongLength ∷ RowField 0 ∷ IdOrder 0
+    TooShort ∷ BadMagic ∷ UnsupportedVersion ∷ HeaderField 0 ∷ WrongLength ∷ RowField 0 ∷ IdOrder 0
     ∷ HotWaterExceedsMeter ∷ ZeroDivisor ∷ NoReadings ∷ MetersExceedHeat ∷ UnmeteredExceedsHeat
-    ∷ BufferLength ∷ BadArchive ∷ BadYearBook ∷ OtherBuilding ∷ MonthState ∷ NoSuchUnit ∷ BadYearSums
+    ∷ BufferLength ∷ BadArchive ∷ BadYearBook ∷ OtherBuilding ∷ MonthState ∷ NoSuchUnit ∷ BadYearSums ∷ FieldConflict 0
     ∷ []
 
 numbers : map answerNumber (Accepted ∷ map Refused refusals)
-    ≡ 0 ∷ 1 ∷ 2 ∷ 3 ∷ 4 ∷ 5 ∷ 6 ∷ 7 ∷ 8 ∷ 9 ∷ 10 ∷ 11 ∷ 12 ∷ 13 ∷ 14 ∷ 15 ∷ 16 ∷ 17 ∷ 18 ∷ 19 ∷ []
+    ≡ 0 ∷ 1 ∷ 2 ∷ 3 ∷ 4 ∷ 5 ∷ 6 ∷ 7 ∷ 8 ∷ 9 ∷ 10 ∷ 11 ∷ 12 ∷ 13 ∷ 14 ∷ 15 ∷ 16 ∷ 17 ∷ 18 ∷ 19 ∷ 20 ∷ []
 unfolding refusals
 numbers = refl
 
--- 6 + 256 × 2, 7 + 256 × 159
-places : map answerNumber (Refused (RowField 2) ∷ Refused (IdOrder 159) ∷ []) ≡ 518 ∷ 40711 ∷ []
+-- 4 + 256 × 44, 6 + 256 × 2, 7 + 256 × 159, 20 + 256 × 3
+places : map answerNumber (Refused (HeaderField 44) ∷ Refused (RowField 2) ∷ Refused (IdOrder 159) ∷ Refused (FieldConflict 3) ∷ []) ≡ 11268 ∷ 518 ∷ 40711 ∷ 788 ∷ []
 places = refl
 
 -- ---- the year call on a book of n units and nothing else, with some sums: 15, then 13, then 18, then 19

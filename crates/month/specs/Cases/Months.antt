@@ -10,7 +10,7 @@ use Rattle.sheet.specs.Refusals.{numberOf, placeOf, firstRefusal}
 use Rattle.sheet.specs.declared.rule_set.RuleSet.{RuleSet}
 use Rattle.sheet.specs.declared.rule_set.RuleSet.the-variants.{Archive1, Archive2}
 use Rattle.sheet.specs.Layout.{inBytes, unitRow, rows, sheetOf}
-use Rattle.sheet.specs.Check.{headerTests, rowTests, rowRules, sheetRules}
+use Rattle.sheet.specs.Check.{headerTests, rowTests, fieldRules, rowRules, sheetRules}
 use Rattle.sheet.specs.Cases.Samples.{unitBytes, joined, sheetBytes, heated, sheetA, unitsA, caseA}
 use Rattle.month.specs.Weights.{allMetered, meteredSum, hasPool, totalArea, unreadWeight, unreadWeights, poolWeight, readingSum, readArea, readSurface, areaWeight, surfaceWeight, readWeight, readWeights, unitsOfClass, litresOfClass1, personsOfClass2, waterWeight}
 use Rattle.month.specs.Steps.{splitBy, inUnitOrder, unitByUnit, hotWater, spaceHeat, heatParts, poolShares, readShares, heat, commonHeat, waterParts, water, commonWater, energies}
@@ -216,7 +216,7 @@ casesByHand rules =
     -- Model 5, unit 13 without a device: three quarters of 800,000 by f 30, five eighths by f 25; the rest by b. 36 is out of f's range.
     ∷ heats rules (partlyMetered 30) gives numbers (50000 ∷ 150000 ∷ 600000 ∷ [])
     ∷ heats rules (partlyMetered 25) gives numbers (75000 ∷ 225000 ∷ 500000 ∷ [])
-    ∷ heats rules (partlyMetered 36) gives refuses 4 0
+    ∷ heats rules (partlyMetered 36) gives refuses 4 14
     -- Model 5, B = 0, unit 13 in status 2: a third of 900 by its p; the rest by p × KF.
     ∷ heats rules (sheet 5 0 0 0 0 30 0 900 10000 (first 0) (heated 11 0 1000 100 0 ∷ heated 12 0 500 100 0 ∷ heated 13 2 1000 100 0 ∷ [])) gives numbers (400 ∷ 200 ∷ 300 ∷ [])
     -- No bytes.
@@ -299,7 +299,7 @@ cases rules = casesAtoL rules ++ (casesByHand rules ++ casesByRules)
 pub all-cases : (rules : RuleSet) → map given (cases rules) ≡ map expected (cases rules)
 unfolding cases casesAtoL casesByHand casesByRules risers risersC oneUnread
     unitBytes joined sheetBytes inBytes unitsD unitsE lastTheRest partlyMetered waterSheet everyEighth whole answer monthA heats pool hotWaterOf billOf
-    sharesBy all any firstRefusal unitRow rows sheetOf headerTests rowTests rowRules sheetRules
+    sharesBy all any firstRefusal unitRow rows sheetOf headerTests rowTests fieldRules rowRules sheetRules
     allMetered meteredSum hasPool totalArea unreadWeight unreadWeights poolWeight readingSum readArea readSurface areaWeight surfaceWeight readWeight readWeights unitsOfClass litresOfClass1 personsOfClass2 waterWeight
     splitBy inUnitOrder unitByUnit hotWater spaceHeat heatParts poolShares readShares heat commonHeat waterParts water commonWater energies
     hotWaterWh spaceHeatWh zeroWaterDivisor zeroDivisor monthRules billCents costs fourAndFour statementOf monthOf settleRules settledSheet

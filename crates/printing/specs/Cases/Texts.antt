@@ -9,7 +9,7 @@ use Rattle.sheet.specs.declared.refusal.Refusal.the-variants.{IdOrder}
 use Rattle.sheet.specs.Tests.{all, any}
 use Rattle.sheet.specs.Refusals.{firstRefusal}
 use Rattle.sheet.specs.Layout.{unitRow, rows, sheetOf, inBytes}
-use Rattle.sheet.specs.Check.{headerTests, rowTests, rowRules, sheetRules}
+use Rattle.sheet.specs.Check.{headerTests, rowTests, fieldRules, rowRules, sheetRules}
 use Rattle.sheet.specs.Cases.Samples.{zeros, put, unitBytes, joined, sheetBytes, caseA}
 use Rattle.month.specs.Weights.{allMetered, meteredSum, hasPool, totalArea, unreadWeight, unreadWeights, poolWeight, readingSum, readArea, readSurface, areaWeight, surfaceWeight, readWeight, readWeights, unitsOfClass, litresOfClass1, personsOfClass2, waterWeight}
 use Rattle.month.specs.Steps.{splitBy, inUnitOrder, unitByUnit, hotWater, spaceHeat, heatParts, poolShares, readShares, heat, commonHeat, waterParts, water, commonWater, energies}
@@ -59,7 +59,9 @@ cases =
     ∷ "13 152381 100000 0 0 1524 1000 0 0\n"
     ∷ [])
     ∷ ([] prints "refused 1 0\n" ∷ [])
+    ∷ (put 6 13 caseA prints "refused 4 6\n" ∷ [])  -- month 13
     ∷ (put 116 5 caseA prints "refused 6 2\n" ∷ [])  -- status 5 in the third row
+    ∷ (put 116 1 caseA prints "refused 20 2\n" ∷ [])  -- status 1 and a reading
     ∷ (put 116 1 (put 133 0 (put 132 0 caseA)) prints "refused 12 0\n" ∷ [])  -- the third unit without a device
     ∷ (longer prints "refused 5 0\n" ∷ [])
     ∷ (take 5169 longer prints "refused 5 0\n" ∷ [])
@@ -71,7 +73,7 @@ cases =
 
 all-cases : map given cases ≡ map expected cases
 unfolding cases risers risersC unitBytes joined sheetBytes inBytes printed firstLine unitLines refusalLine decimal digitsUpTo
-    sharesBy all any firstRefusal unitRow rows sheetOf headerTests rowTests rowRules sheetRules
+    sharesBy all any firstRefusal unitRow rows sheetOf headerTests rowTests fieldRules rowRules sheetRules
     allMetered meteredSum hasPool totalArea unreadWeight unreadWeights poolWeight readingSum readArea readSurface areaWeight surfaceWeight readWeight readWeights unitsOfClass litresOfClass1 personsOfClass2 waterWeight
     splitBy inUnitOrder unitByUnit hotWater spaceHeat heatParts poolShares readShares heat commonHeat waterParts water commonWater energies
     hotWaterWh spaceHeatWh zeroWaterDivisor zeroDivisor monthRules billCents costs fourAndFour statementOf monthOf settleRules settledSheet

@@ -6,8 +6,8 @@ use Rattle.apportion.specs.Shares.{sharesBy}
 use Rattle.sheet.specs.Tests.{all, any}
 use Rattle.sheet.specs.Refusals.{numberOf, placeOf, firstRefusal}
 use Rattle.sheet.specs.Layout.{inBytes, unitRow, rows, sheetOf}
-use Rattle.sheet.specs.Check.{headerTests, rowTests, rowRules, sheetRules}
-use Rattle.sheet.specs.Cases.Samples.{zeros, unitBytes, joined, sheetBytes, heated}
+use Rattle.sheet.specs.Check.{headerTests, rowTests, fieldRules, rowRules, sheetRules}
+use Rattle.sheet.specs.Cases.Samples.{put, zeros, unitBytes, joined, sheetBytes, heated}
 use Rattle.month.specs.Weights.{allMetered, meteredSum, hasPool, totalArea, unreadWeight, unreadWeights, poolWeight, readingSum, readArea, readSurface, areaWeight, surfaceWeight, readWeight, readWeights, unitsOfClass, litresOfClass1, personsOfClass2, waterWeight}
 use Rattle.month.specs.Steps.{splitBy, inUnitOrder, unitByUnit, hotWater, spaceHeat, heatParts, poolShares, readShares, heat, commonHeat, waterParts, water, commonWater, energies}
 use Rattle.month.specs.Month.{hotWaterWh, spaceHeatWh, zeroWaterDivisor, zeroDivisor, monthRules, billCents, costs, fourAndFour, statementOf, monthOf, settleRules, settledSheet}
@@ -79,7 +79,8 @@ run =
     ∷ year 0 gets gives 3 (3513 ∷ 0 ∷ 0 ∷ 0 ∷ 35 ∷ 0 ∷ 0 ∷ 0 ∷ [])
     ∷ withdraw 3 gets accepts
     ∷ post [] gets refuses 1 0
-    ∷ post (byArea 13 1000) gets refuses 4 0
+    ∷ post (byArea 13 1000) gets refuses 4 6
+    ∷ post (put 84 1 (byArea 1 1000)) gets refuses 20 1  -- status 1 in model 2; 20 before 17
     ∷ post (overcharged 2) gets refuses 12 0
     ∷ post oneUnit gets refuses 16 0
     ∷ replace otherId gets refuses 16 0
@@ -98,7 +99,7 @@ run =
 pub run-right : map answerOf (plainReplies (openedPlain (overcharged 6)) (map callOf run)) ≡ map expected run
 unfolding run byArea byRisers overcharged oneUnit otherId unitBytes joined sheetBytes inBytes
     openedPlain stands sheetsOf nowHolds notKept brought withdrawn numberIn unitSums told called plainReplies
-    sharesBy all any firstRefusal unitRow rows sheetOf headerTests rowTests rowRules sheetRules
+    sharesBy all any firstRefusal unitRow rows sheetOf headerTests rowTests fieldRules rowRules sheetRules
     allMetered meteredSum hasPool totalArea unreadWeight unreadWeights poolWeight readingSum readArea readSurface areaWeight surfaceWeight readWeight readWeights unitsOfClass litresOfClass1 personsOfClass2 waterWeight
     splitBy inUnitOrder unitByUnit hotWater spaceHeat heatParts poolShares readShares heat commonHeat waterParts water commonWater energies
     hotWaterWh spaceHeatWh zeroWaterDivisor zeroDivisor monthRules billCents costs fourAndFour statementOf monthOf settleRules settledSheet

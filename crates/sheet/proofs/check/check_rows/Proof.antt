@@ -1,24 +1,18 @@
-use mathlib.Core.Path.{_≡_, refl, sym, _∙_}
-use mathlib.Core.Bool.{true, false}
+use mathlib.Core.Path.{_≡_, refl, sym, ap, _∙_}
 use mathlib.Core.List.{List}
 use Prim.Native.Nat.{ℕ, _-_, _≤_}
 use native.Mathlib.Omega.{arith}
 use borrow.Author.Needs.{needs}
 use borrow.Author.Tests.{not-true, not-false}
-use lib.ListN.{length, getD, drop}
-use Rattle.sheet.specs.declared.refusal.Outcome.the-variants.{Accepted}
-use Rattle.sheet.specs.Tests.{all}
-use Rattle.sheet.specs.Layout.{sheetOf}
-use Rattle.sheet.specs.Inner.Fields.{unitOf}
-use Rattle.sheet.proofs.Walk.{tests-more, tests-fault, tests-end, row-length, row-test, rowsFrom, testsOf, row-fault, order-fault, rows-more, rows-end}
+use Rattle.sheet.specs.declared.refusal.Refusal.{Refusal}
+use Rattle.sheet.specs.declared.refusal.Outcome.the-variants.{Accepted, Refused}
+use Rattle.sheet.proofs.Walk.{rowsFrom, fieldsFrom, row-opens, field-more, field-fault, order-fault, rows-more, rows-end}
 use Rattle.sheet.proofs.check.check_rows.Statement.{statement}
 use Rattle.sheet.proofs.check.check_rows.Tie as tie
 
-ten : (s : List ℕ) (i : ℕ) → length (testsOf s i) ≡ 10
-ten s i = row-length (sheetOf s) (unitOf (sheetOf s) i)
-
+-- nothing found yet, and what is left gives the answer
 abbrev Inv-loop : tie.InvT-loop
-Inv-loop s n limits found₀ i ranges k₀ found k = (k ≤ 10) × ((found ≡ Accepted) × (all (drop k (testsOf s i)) ≡ all (testsOf s i)))
+Inv-loop s n limits found₀ i ranges k₀ found k = (k ≤ 10) × ((found ≡ Accepted) × (fieldsFrom s i k ≡ rowsFrom s 0))
 
 abbrev μ-loop : tie.MeasureT-loop
 μ-loop s n limits found₀ i ranges k₀ found k = 10 - k
@@ -42,24 +36,9 @@ fieldOf c = c .before .before .before .before
 abbrev bytesOf : tie.At-rows Inv-loop μ-loop Inv-rows μ-rows → List ℕ
 bytesOf c = c .before .before .before .args .s .now
 
--- the code's test is the definition's
-test : (c : Tested) → getD (testsOf (bytesOf (rowOf c)) (rowOf c .rows .i)) (fieldOf c .loop .k) false ≡ c .within .result
-test c =
-    let s = sheetOf (bytesOf (rowOf c)) in
-    let row = rowOf c in
-    let field = fieldOf c in
-    sym (c .within .ensures ∙ row-test s (unitOf s (row .rows .i)) _ (field .loop .k) _ (field .before .row-ranges .ensures) (c .before .unit-field .ensures) (omega arith))
-
--- behind the last field all tests have passed
+-- the row at hand, from behind its last field
 abbrev rowDone : tie.After-loop Inv-loop μ-loop Inv-rows μ-rows → tie.At-rows Inv-loop μ-loop Inv-rows μ-rows
 rowDone c = c .before .before .before .before
-
-passed : (c : tie.After-loop Inv-loop μ-loop Inv-rows μ-rows) → all (testsOf (bytesOf (rowDone c)) (rowDone c .rows .i)) ≡ true
-passed c =
-    let s = bytesOf (rowDone c) in
-    let i = rowDone c .rows .i in
-    let fields = c .before .loop in
-    sym (fields .inv .1 .1) ∙ tests-end (testsOf s i) (fields .k) (omega (arith, ten s i))
 
 row-limits-requires : tie.Need-row-limits-requires Inv-loop μ-loop Inv-rows μ-rows
 row-limits-requires c κs = omega arith
@@ -71,7 +50,9 @@ row-ranges-requires : tie.Need-row-ranges-requires Inv-loop μ-loop Inv-rows μ-
 row-ranges-requires c κs = (omega arith, omega arith, c .before .before .row-limits .ensures)
 
 loop-holds : tie.Need-loop-holds Inv-loop μ-loop Inv-rows μ-rows
-loop-holds c = (omega arith, (c .before .before .rows .inv .1 .0, refl))
+loop-holds c =
+    let row = c .before .before in
+    (omega arith, (row .rows .inv .1 .0, sym (row-opens (bytesOf row) (row .rows .i) (omega arith)) ∙ row .rows .inv .1 .1))
 
 mul-range : tie.Need-mul-range Inv-loop μ-loop Inv-rows μ-rows
 mul-range c = omega arith
@@ -88,8 +69,11 @@ unit-field-requires c κs = omega arith
 within-requires : tie.Need-within-requires Inv-loop μ-loop Inv-rows μ-rows
 within-requires c κs = search needs
 
-cast-t18 : tie.Need-cast-t18 Inv-loop μ-loop Inv-rows μ-rows
-cast-t18 c = omega arith
+cast-field-refusal : tie.Need-cast-field-refusal Inv-loop μ-loop Inv-rows μ-rows
+cast-field-refusal c = omega arith
+
+field-refusal-requires : tie.Need-field-refusal-requires Inv-loop μ-loop Inv-rows μ-rows
+field-refusal-requires c κs = omega arith
 
 add-k : tie.Need-add-k Inv-loop μ-loop Inv-rows μ-rows
 add-k c = omega arith
@@ -99,12 +83,10 @@ loop-less c = omega arith
 
 loop-again : tie.Need-loop-again Inv-loop μ-loop Inv-rows μ-rows
 loop-again c =
-    let row = rowOf (c .before) in
-    let s = bytesOf row in
-    let i = row .rows .i in
-    let fields = fieldOf (c .before) .loop in
-    let pass = test (c .before) ∙ not-false _ (c .if1 .left) in
-    (omega arith, (fields .inv .1 .0, tests-more (testsOf s i) (fields .k) (omega (arith, ten s i)) pass ∙ fields .inv .1 .1))
+    let t = c .before in let row = rowOf t in let field = fieldOf t in
+    let pass = sym (t .within .ensures) ∙ not-false _ (c .if1 .left) in
+    let same = field-more (bytesOf row) (row .rows .i) _ (field .loop .k) _ (field .before .row-ranges .ensures) (t .before .unit-field .ensures) (omega arith) pass in
+    (omega arith, (field .loop .inv .1 .0, same ∙ field .loop .inv .1 .1))
 
 not-above-requires : tie.Need-not-above-requires Inv-loop μ-loop Inv-rows μ-rows
 not-above-requires c κs = omega arith
@@ -120,9 +102,9 @@ rows-less c = omega arith
 
 rows-again : tie.Need-rows-again Inv-loop μ-loop Inv-rows μ-rows
 rows-again c =
-    let row = rowDone (c .before .before) in
+    let done = c .before .before in let row = rowDone done in let fields = done .before .loop in
     let ordered = sym (c .before .not-above .ensures) ∙ c .if2 .left in
-    (omega arith, (c .before .before .before .loop .inv .1 .0, rows-more (bytesOf row) (row .rows .i) (omega arith) (passed (c .before .before)) ordered ∙ row .rows .inv .1 .1))
+    (omega arith, (fields .inv .1 .0, rows-more (bytesOf row) (row .rows .i) (omega arith) (fields .k) (omega arith) ordered ∙ fields .inv .1 .1))
 
 returns : tie.Need-returns Inv-loop μ-loop Inv-rows μ-rows
 returns c =
@@ -131,18 +113,17 @@ returns c =
 
 returns-2 : tie.Need-returns-2 Inv-loop μ-loop Inv-rows μ-rows
 returns-2 c =
-    let row = rowOf (c .before) in
-    let s = bytesOf row in
-    let i = row .rows .i in
-    let fields = fieldOf (c .before) .loop in
-    let fault = test (c .before) ∙ not-true _ (c .if1 .taken) in
-    sym (row-fault s i (omega arith) (sym (fields .inv .1 .1) ∙ tests-fault (testsOf s i) (fields .k) (omega (arith, ten s i)) fault)) ∙ row .rows .inv .1 .1
+    let t = c .before .before in let row = rowOf t in let field = fieldOf t in
+    let fault = sym (t .within .ensures) ∙ not-true _ (c .before .if1 .taken) in
+    ap (λ (r : Refusal). Refused r) (c .field-refusal .ensures)
+    ∙ sym (field-fault (bytesOf row) (row .rows .i) _ (field .loop .k) _ (field .before .row-ranges .ensures) (t .before .unit-field .ensures) (omega arith) fault)
+    ∙ field .loop .inv .1 .1
 
 returns-3 : tie.Need-returns-3 Inv-loop μ-loop Inv-rows μ-rows
 returns-3 c =
-    let row = rowDone (c .before .before) in
+    let done = c .before .before in let row = rowDone done in let fields = done .before .loop in
     let disorder = sym (c .before .not-above .ensures) ∙ c .if2 .taken in
-    sym (order-fault (bytesOf row) (row .rows .i) (omega arith) (passed (c .before .before)) disorder) ∙ row .rows .inv .1 .1
+    sym (order-fault (bytesOf row) (row .rows .i) (omega arith) (fields .k) (omega arith) disorder) ∙ fields .inv .1 .1
 
 pub check-rows-spec : {M : Type 1} → statement M
 check-rows-spec =
@@ -161,7 +142,8 @@ check-rows-spec =
     add-unit-field
     unit-field-requires
     within-requires
-    cast-t18
+    cast-field-refusal
+    field-refusal-requires
     add-k
     loop-less
     loop-again
