@@ -1,5 +1,5 @@
-/* What include/heatcost.h says beside the calls: lengths, the parts of an answer, texts, NULL with a count of 0, lists
- * without values, calls side by side in threads. */
+/* What include/heatcost.h says beside the calls: lengths, the parts of an answer, texts, places, NULL with a count of
+ * 0, lists without values, calls side by side in threads. */
 #include <pthread.h>
 #include <stdio.h>
 #include <stdlib.h>
@@ -39,7 +39,10 @@ static void answers(void)
     EXPECT(HEATCOST_PLACE(512 + 6), 2);
     EXPECT(HEATCOST_PLACE(256 * 1919 + 7), 1919);
     EXPECT(strcmp(heatcost_text(518), heatcost_text(HEATCOST_ROW_FIELD)), 0);
-    EXPECT(strcmp(heatcost_text(20), "no such number"), 0);
+    EXPECT(HEATCOST_NUMBER(256 * 159 + 20), HEATCOST_FIELD_CONFLICT);
+    EXPECT(HEATCOST_PLACE(256 * 159 + 20), 159);
+    EXPECT(HEATCOST_PLACE(256 * 44 + 4), 44);
+    EXPECT(strcmp(heatcost_text(21), "no such number"), 0);
     EXPECT(strcmp(heatcost_text(255), "no such number"), 0);
 }
 
@@ -53,6 +56,24 @@ static void make_sheet(uint8_t *sheet, uint8_t meter)
     sheet[22] = 1;     /* price, in 0.65536 EUR/kWh */
     sheet[48 + 6] = 1; /* location factor */
     sheet[48 + 8] = 1; /* heated area */
+}
+
+/* 4 with its byte, in a record too; 6 and 20. */
+static void places(void)
+{
+    uint8_t sheet[HEATCOST_SHEET_LEN(1)];
+    uint8_t record[HEATCOST_RECORD_LEN(1)];
+    uint32_t statement[HEATCOST_STATEMENT_LEN(1)];
+    make_sheet(sheet, 0);
+    EXPECT(heatcost_write_record(sheet, sizeof sheet, record, sizeof record), HEATCOST_ACCEPTED);
+    sheet[48 + 4] = 1; /* status, in model 2 */
+    EXPECT(heatcost_settle(sheet, sizeof sheet, statement, HEATCOST_STATEMENT_LEN(1)), HEATCOST_FIELD_CONFLICT);
+    sheet[48 + 4] = 5;
+    EXPECT(heatcost_settle(sheet, sizeof sheet, statement, HEATCOST_STATEMENT_LEN(1)), HEATCOST_ROW_FIELD);
+    sheet[44] = 1; /* the last hot water reading, with source 0 */
+    EXPECT(heatcost_settle(sheet, sizeof sheet, statement, HEATCOST_STATEMENT_LEN(1)), 256 * 44 + 4);
+    record[8 + 11] = 1; /* base percent, in model 2 */
+    EXPECT(heatcost_read_record(record, sizeof record), 256 * 11 + 4);
 }
 
 /* Every list as NULL with a count of 0. */
@@ -148,6 +169,7 @@ int main(void)
 {
     lengths();
     answers();
+    places();
     nulls();
     nulls_of_a_year();
     threads();

@@ -1,5 +1,6 @@
 /* From plain fields to a statement: case A of docs/FORMAT.md as a sheet's bytes, settled, and printed as the program
- * `statement` prints it; then the same month with a fault in its third row. */
+ * `statement` prints it; then the same month with a fault in its third row, with two fields that clash there, and with
+ * a fault in the header. */
 #include <stdio.h>
 
 #include "heatcost.h"
@@ -118,8 +119,13 @@ static void settle_and_print(const struct month *month)
 int main(void)
 {
     struct month faulty = case_a;
-    faulty.units[2].location_factor = 0;
     settle_and_print(&case_a);
+    faulty.units[2].location_factor = 0;
+    settle_and_print(&faulty);
+    faulty.units[2].location_factor = 1000;
+    faulty.units[2].status = 1; /* not read, but with a reading */
+    settle_and_print(&faulty);
+    faulty.base_percent = 31; /* byte 11 */
     settle_and_print(&faulty);
     return 0;
 }

@@ -1,5 +1,6 @@
 """From plain fields to a statement: case A of docs/FORMAT.md as a sheet's bytes, settled, and printed as the program
-`statement` prints it; then the same month with a fault in its third row.
+`statement` prints it; then the same month with a fault in its third row, with two fields that clash there, and with a
+fault in the header.
 
 The argument is the library as a shared object.
 """
@@ -94,8 +95,12 @@ def main(path):
         ctypes.c_size_t,
     ]
     settle_and_print(library, CASE_A)
-    faulty = CASE_A["units"][:2] + [CASE_A["units"][2] | dict(location_factor=0)]
-    settle_and_print(library, CASE_A | dict(units=faulty))
+    *others, third = CASE_A["units"]
+    settle_and_print(library, CASE_A | dict(units=others + [third | dict(location_factor=0)]))
+    # Not read, but with a reading.
+    settle_and_print(library, CASE_A | dict(units=others + [third | dict(status=1)]))
+    # Byte 11.
+    settle_and_print(library, CASE_A | dict(base_percent=31))
 
 
 if __name__ == "__main__":

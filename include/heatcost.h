@@ -11,10 +11,12 @@
  * (statement, record, text, totals, book and sums at opening) need no values beforehand. The lists of one call must
  * not overlap: a record can't be built in place around its own sheet.
  *
- * Answers. A uint64_t is a length. A uint32_t is 0 for accepted, else the refusal's number + 256 * its place: for 6
- * and 7 the row, counted from 0; for all others 0. Refusals are tested in the order that stands with the call, 6 and 7
- * row by row, and the first that holds is the answer. A refused call leaves every list, book and sums too, as it was.
- * Printing is never refused: a refusal has a text too.
+ * Answers. A uint64_t is a length. A uint32_t is 0 for accepted, else the refusal's number + 256 * its place: for 4 the
+ * first wrong header field's byte in the sheet, in a record too; for 6, 7 and 20 the row, counted from 0; for all
+ * others 0. Refusals are tested in the order that stands with the call, and the first that holds is the answer. 6, 20
+ * and 7 go row by row: in a row field by field, at each field first 6, then 20; after its fields 7. So 20 stands beside
+ * 6, before 8 to 12. A refused call leaves every list, book and sums too, as it was. Printing is never refused: a
+ * refusal has a text too.
  *
  * Threads. Nothing is kept between calls, and the library has no data that it writes. Calls may run side by side as
  * long as no list that one of them writes is used by another.
@@ -24,7 +26,7 @@
  *
  * Memory. No call uses the heap: memcpy and memset are all that the library needs from outside (`nm -u`). A call takes
  * at most HEATCOST_STACK bytes of stack: settling 18,000; printing, writing or reading a record, posting and replacing
- * 23,100; withdrawing 5,300; opening and the year call 200. `compare/run stack` measures this on a painted stack. The
+ * 23,100; withdrawing 5,300; opening and the year call 300. `compare/run stack` measures this on a painted stack. The
  * caller's own frames come on top, and what the system needs: a thread's own block, a first lookup of memcpy or memset.
  */
 #ifndef HEATCOST_H
@@ -77,7 +79,8 @@ enum heatcost_number {
     HEATCOST_OTHER_BUILDING = 16,
     HEATCOST_MONTH_STATE = 17,
     HEATCOST_NO_SUCH_UNIT = 18,
-    HEATCOST_BAD_YEAR_SUMS = 19
+    HEATCOST_BAD_YEAR_SUMS = 19,
+    HEATCOST_FIELD_CONFLICT = 20
 };
 
 /* One line of text for a number, or for a whole answer. */
@@ -93,11 +96,11 @@ static inline const char *heatcost_text(uint32_t number)
     case HEATCOST_UNSUPPORTED_VERSION:
         return "the sheet's version, bytes 4 and 5, isn't 1";
     case HEATCOST_HEADER_FIELD:
-        return "a header field of the sheet is out of range, or doesn't go with model or water source";
+        return "the header field at that byte is out of range, or doesn't go with model or water source";
     case HEATCOST_WRONG_LENGTH:
         return "the length doesn't fit n: a sheet has 48 + 32n bytes, a record 56 + 64n";
     case HEATCOST_ROW_FIELD:
-        return "a field of that row is out of range, or doesn't go with model, source, status or class";
+        return "a field of that row is out of range";
     case HEATCOST_ID_ORDER:
         return "the row's id isn't above the id of the row before";
     case HEATCOST_HOT_WATER_EXCEEDS_METER:
@@ -124,6 +127,8 @@ static inline const char *heatcost_text(uint32_t number)
         return "the book has no unit at that place";
     case HEATCOST_BAD_YEAR_SUMS:
         return "not the book's sums: not 1,280 numbers, or one would go below 0 or past 64 bits";
+    case HEATCOST_FIELD_CONFLICT:
+        return "a field of that row is in range, but doesn't go with model, source, status or class";
     default:
         return "no such number";
     }
@@ -134,23 +139,23 @@ extern "C" {
 #endif
 
 /* Settles a sheet. Writes the statement, 8 numbers a unit: heat, common heat, water and common water in Wh, then the
- * same in cents. Refusals 1 to 12, then 13 unless statement_len is HEATCOST_STATEMENT_LEN(n). */
+ * same in cents. Refusals 1 to 12 with 20, then 13 unless statement_len is HEATCOST_STATEMENT_LEN(n). */
 uint32_t heatcost_settle(const uint8_t *sheet, size_t sheet_len, uint32_t *statement, size_t statement_len);
 
-/* Prints a sheet: its month, or the line of its refusal, 1 to 12 (docs/FORMAT.md, "The printed form"). Answers how many
- * bytes that text has, no zero byte among them: at most HEATCOST_PRINT_LEN(n), refused at most HEATCOST_PRINT_LEN(0).
- * Writes it to the front of a list that is long enough and leaves what stands behind it; a shorter list stays as it
- * was. So NULL and 0 ask for the length alone. */
+/* Prints a sheet: its month, or the line of its refusal, 1 to 12 with 20 (docs/FORMAT.md, "The printed form"). Answers
+ * how many bytes that text has, no zero byte among them: at most HEATCOST_PRINT_LEN(n), refused at most
+ * HEATCOST_PRINT_LEN(0). Writes it to the front of a list that is long enough and leaves what stands behind it; a
+ * shorter list stays as it was. So NULL and 0 ask for the length alone. */
 uint64_t heatcost_print(const uint8_t *sheet, size_t sheet_len, uint8_t *text, size_t text_len);
 
-/* Writes the archive record of a sheet, of version 2. Refusals 1 to 12, then 13 unless record_len is
+/* Writes the archive record of a sheet, of version 2. Refusals 1 to 12 with 20, then 13 unless record_len is
  * HEATCOST_RECORD_LEN(n). */
 uint32_t heatcost_write_record(const uint8_t *sheet, size_t sheet_len, uint8_t *record, size_t record_len);
 
-/* Checks a record of version 1 or 2: 14 for its head, the sheet's refusals 1 to 12, 14 for a statement that isn't the
- * sheet's by the version's rules. Accepted, the sheet is the record's bytes from 8 on, heatcost_record_sheet_len of
- * them; settled now it may come out otherwise. A change that leaves the settlement as it is isn't found: this is no
- * checksum. */
+/* Checks a record of version 1 or 2: 14 for its head, the sheet's refusals 1 to 12 with 20, 14 for a statement that
+ * isn't the sheet's by the version's rules. Accepted, the sheet is the record's bytes from 8 on,
+ * heatcost_record_sheet_len of them; settled now it may come out otherwise. A change that leaves the settlement as it
+ * is isn't found: this is no checksum. */
 uint32_t heatcost_read_record(const uint8_t *record, size_t record_len);
 
 /* How many bytes the sheet of a record has, HEATCOST_SHEET_LEN(n); 0 for a record that is refused. It makes the whole
@@ -170,11 +175,12 @@ uint64_t heatcost_record_sheet_len(const uint8_t *record, size_t record_len);
  * sums, so that sums of another book need not be found. */
 
 /* Opens a book with the n and ids of a sheet and erases all that it held; all sums are 0. No month stands afterwards,
- * not the sheet's either. Refusals 15, 1 to 7, then 19 for another sums_len. */
+ * not the sheet's either. Refusals 15, 1 to 7 with 20, then 19 for another sums_len. */
 uint32_t heatcost_open(uint32_t *book, size_t book_len, uint64_t *sums, size_t sums_len, const uint8_t *sheet,
                        size_t sheet_len);
 
-/* Posts a sheet's month, which must not stand yet; replaces one that stands. Refusals 15, 1 to 12, 16, 17, 19. */
+/* Posts a sheet's month, which must not stand yet; replaces one that stands. Refusals 15, 1 to 12 with 20, 16, 17,
+ * 19. */
 uint32_t heatcost_post(uint32_t *book, size_t book_len, uint64_t *sums, size_t sums_len, const uint8_t *sheet,
                        size_t sheet_len);
 uint32_t heatcost_replace(uint32_t *book, size_t book_len, uint64_t *sums, size_t sums_len, const uint8_t *sheet,

@@ -25,7 +25,7 @@ pub struct YearSums {
     pub sums: [u64; 8],
 }
 
-/// Refusals 15 (by length), 1 to 7 and 19 (by length).
+/// Refusals 15 (by length), 1 to 7 with 20, and 19 (by length).
 pub fn open(list: &mut [u32], sums: &mut [u64], sheet: &[u8]) -> Result<(), Refusal> {
     refuse_if(list.len() != BOOK_LEN, BAD_YEAR_BOOK)?;
     check(sheet, ROW_BYTES)?;
@@ -40,12 +40,12 @@ pub fn open(list: &mut [u32], sums: &mut [u64], sheet: &[u8]) -> Result<(), Refu
     Ok(())
 }
 
-/// Refusals 15, 1 to 12, 16, 17 when the month is posted, and 19.
+/// Refusals 15, 1 to 12 with 20, 16, 17 when the month is posted, and 19.
 pub fn post(list: &mut [u32], sums: &mut [u64], sheet: &[u8]) -> Result<(), Refusal> {
     enter_month(list, sums, sheet, false)
 }
 
-/// Refusals 15, 1 to 12, 16, 17 when the month is not posted, and 19.
+/// Refusals 15, 1 to 12 with 20, 16, 17 when the month is not posted, and 19.
 pub fn replace(list: &mut [u32], sums: &mut [u64], sheet: &[u8]) -> Result<(), Refusal> {
     enter_month(list, sums, sheet, true)
 }

@@ -1,6 +1,7 @@
 //! Random call lists for the year book.
 
 use crate::damage::damage;
+use crate::faults::spoil;
 use crate::rng::Rng;
 use crate::samples::{random_ids, random_sheet_of};
 use crate::sheet::build_sheet;
@@ -32,8 +33,10 @@ fn sheet_for_call(rng: &mut Rng, ids: &[u32]) -> Vec<u8> {
         _ => {}
     }
     let mut sheet = sheet_of_building(rng, &other);
-    if rng.once_in(10) {
-        damage(rng, &mut sheet);
+    match rng.below(10) {
+        0 => damage(rng, &mut sheet),
+        1 | 2 => spoil(rng, &mut sheet),
+        _ => {}
     }
     sheet
 }

@@ -5,7 +5,7 @@ use crate::samples::random_sheet;
 use crate::sheet::{build_sheet, HEADER_BYTES, ROW_BYTES};
 
 /// Offset and size of each header field behind mark and version.
-const HEADER_FIELDS: [(usize, usize); 17] = [
+pub const HEADER_FIELDS: [(usize, usize); 17] = [
     (6, 1),
     (7, 1),
     (8, 2),
@@ -84,7 +84,7 @@ pub fn damage(rng: &mut Rng, bytes: &mut Vec<u8>) {
 
 /// Sets a field to a value near an end of some range.
 fn change_field(rng: &mut Rng, bytes: &mut [u8], (offset, size): (usize, usize)) {
-    const ENDS: [u64; 16] = [
+    const ENDS: [u64; 18] = [
         0,
         1,
         2,
@@ -99,13 +99,15 @@ fn change_field(rng: &mut Rng, bytes: &mut [u8], (offset, size): (usize, usize))
         10_000,
         50_000,
         100_000,
+        1_000_000,
+        20_000_000,
         25_000_000,
         4_000_000_000,
     ];
     if offset + size > bytes.len() {
         return;
     }
-    let end = ENDS[rng.below(16) as usize];
+    let end = ENDS[rng.below(18) as usize];
     let value = (end + rng.below(3)).wrapping_sub(1);
     put(bytes, (offset, size), value);
 }

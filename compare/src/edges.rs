@@ -18,6 +18,7 @@ pub fn sheet_at_an_end(rng: &mut Rng) -> Vec<u8> {
     let rows = (bytes.len() - HEADER_BYTES) / ROW_BYTES;
     let place = match range.field() {
         Field::Header(offset, size) => (offset, size),
+        Field::LaterInputs => (28 + 4 * rng.below(5) as usize, 4),
         Field::Row(offset, size) => {
             let row = rng.below(rows as u64) as usize;
             (HEADER_BYTES + ROW_BYTES * row + offset, size)

@@ -1,5 +1,5 @@
 //! An independent implementation of document 01 in plain Rust, with requests
-//! 2026-01 and 2026-02.
+//! 2026-01, 2026-02 and 2026-03.
 //!
 //! It was written from the documents alone and shares no code with the product.
 //! Nothing here is proved. It makes the stored vectors of the gate, and it is
@@ -12,8 +12,8 @@
 //! - `cargo run --release --bin division_vectors FOLDER`: "Dividing". A vector
 //!   is the count (16 bits), the total (32 bits) and the weights (64 bits
 //!   each); its line holds the shares.
-//! - `cargo run --release --bin sheet_vectors FOLDER`: refusals 1 to 7. A
-//!   vector is a length (16 bits) and that many bytes; its line is `0 0` or
+//! - `cargo run --release --bin sheet_vectors FOLDER`: refusals 1 to 7 and 20.
+//!   A vector is a length (16 bits) and that many bytes; its line is `0 0` or
 //!   number and place.
 //! - `cargo run --release --bin month_vectors FOLDER`: whole months, vectors as
 //!   before; the lines are those of "Printing".
@@ -43,6 +43,7 @@ pub mod cases;
 pub mod damage;
 pub mod edges;
 pub mod fast;
+pub mod faults;
 pub mod plain_book;
 pub mod portions;
 pub mod print;

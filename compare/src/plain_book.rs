@@ -11,7 +11,7 @@ pub struct PlainBook {
 }
 
 impl PlainBook {
-    /// Refused by 1 to 7.
+    /// Refused by 1 to 7 and 20.
     pub fn open(sheet: &[u8]) -> Result<PlainBook, Refusal> {
         check(sheet, ROW_BYTES)?;
         let units = read_sheet(sheet).units;

@@ -1,12 +1,13 @@
-//! Document 01, "The sheet": the ranges of the fields.
+//! Document 01, "The sheet", with request 2026-03: the ranges of the fields.
 
 use crate::sheet::MAX_WH;
 
 /// Declares the ranges, and the list of all of them.
 macro_rules! ranges {
     ($($(#[$doc:meta])* $name:ident,)*) => {
-        /// A field's range, or one of its ranges where it hangs on model,
-        /// source, status or water class.
+        /// A field's range. A header field that hangs on model or source has
+        /// several; a row field has a fixed one, and where it may clash those
+        /// that model, source, status or water class allow.
         #[derive(Clone, Copy, Debug, PartialEq, Eq)]
         pub enum Range {
             $($(#[$doc])* $name,)*
@@ -49,10 +50,10 @@ ranges! {
     /// h2 to h6
     LaterInputSource3,
     LaterInputElse,
+    Status,
     StatusModels1And2,
-    StatusElse,
+    WaterClass,
     WaterClassSource0,
-    WaterClassElse,
     /// KF
     LocationFactor,
     /// p
@@ -62,11 +63,13 @@ ranges! {
     /// q
     HeatLoad,
     /// b
+    Reading,
+    ReadingModels1And2,
+    ReadingUnread,
     ReadingModels3And4,
-    ReadingModel5,
-    ReadingElse,
-    LitresClass1,
-    LitresElse,
+    Litres,
+    LitresClass0,
+    LitresClass2,
     Persons,
     PersonsClass0,
     /// A row's last two bytes.
@@ -78,10 +81,38 @@ use Range::*;
 /// A field by offset and size.
 pub enum Field {
     Header(usize, usize),
+    /// h2 to h6: four bytes each, from byte 28 on.
+    LaterInputs,
     Row(usize, usize),
 }
 
 impl Range {
+    /// The fixed ranges of a row's fields, in layout order.
+    pub const OF_ROWS: [Range; 10] = [
+        Status,
+        WaterClass,
+        LocationFactor,
+        HeatedArea,
+        RiserSurface,
+        HeatLoad,
+        Reading,
+        Litres,
+        Persons,
+        Reserved,
+    ];
+
+    /// The ranges by which a row's fields clash.
+    pub const CLASHES: [Range; 8] = [
+        StatusModels1And2,
+        WaterClassSource0,
+        ReadingModels1And2,
+        ReadingUnread,
+        ReadingModels3And4,
+        LitresClass0,
+        LitresClass2,
+        PersonsClass0,
+    ];
+
     /// Where the field lies: in the header or in a row, and how many bytes
     /// it has.
     pub fn field(self) -> Field {
@@ -98,15 +129,15 @@ impl Range {
             SharedMeter => Field::Header(16, 4),
             Price => Field::Header(20, 4),
             FirstInputSource0 | FirstInputSource2 | FirstInputElse => Field::Header(24, 4),
-            LaterInputSource3 | LaterInputElse => Field::Header(28, 4),
-            StatusModels1And2 | StatusElse => Field::Row(4, 1),
-            WaterClassSource0 | WaterClassElse => Field::Row(5, 1),
+            LaterInputSource3 | LaterInputElse => Field::LaterInputs,
+            Status | StatusModels1And2 => Field::Row(4, 1),
+            WaterClass | WaterClassSource0 => Field::Row(5, 1),
             LocationFactor => Field::Row(6, 2),
             HeatedArea => Field::Row(8, 4),
             RiserSurface => Field::Row(12, 4),
             HeatLoad => Field::Row(16, 4),
-            ReadingModels3And4 | ReadingModel5 | ReadingElse => Field::Row(20, 4),
-            LitresClass1 | LitresElse => Field::Row(24, 4),
+            Reading | ReadingModels1And2 | ReadingUnread | ReadingModels3And4 => Field::Row(20, 4),
+            Litres | LitresClass0 | LitresClass2 => Field::Row(24, 4),
             Persons | PersonsClass0 => Field::Row(28, 2),
             Reserved => Field::Row(30, 2),
         }
@@ -121,22 +152,20 @@ impl Range {
             Source => (0, 3),
             BasePercentModel3 => (20, 30),
             BasePercentModel4 => (0, 60),
-            CommonHeatPercent | CommonWaterPercent => (0, 50),
+            CommonHeatPercent | CommonWaterPercent | Persons => (0, 50),
             UnmeteredFactor => (25, 35),
             LossFactor => (50, 200),
             SharedMeter | FirstInputElse | LaterInputSource3 => (0, MAX_WH),
-            Price => (0, 100_000),
+            Price | HeatLoad => (0, 100_000),
             FirstInputSource2 => (0, 20_000_000),
-            StatusElse => (0, 4),
-            WaterClassElse => (0, 2),
+            Status => (0, 4),
+            WaterClass => (0, 2),
             LocationFactor => (1, 1_000),
             HeatedArea => (1, 10_000),
             RiserSurface => (0, 10_000),
-            HeatLoad => (0, 100_000),
+            Reading => (0, 25_000_000),
             ReadingModels3And4 => (0, 50_000),
-            ReadingModel5 => (0, 25_000_000),
-            LitresClass1 => (0, 1_000_000),
-            Persons => (0, 50),
+            Litres => (0, 1_000_000),
             BasePercentElse
             | CommonHeatPercentElse
             | CommonWaterPercentSource0
@@ -146,8 +175,10 @@ impl Range {
             | LaterInputElse
             | StatusModels1And2
             | WaterClassSource0
-            | ReadingElse
-            | LitresElse
+            | ReadingModels1And2
+            | ReadingUnread
+            | LitresClass0
+            | LitresClass2
             | PersonsClass0
             | Reserved => (0, 0),
         }

@@ -40,7 +40,7 @@ pub fn write_record(sheet: &[u8], list: &mut [u8]) -> Result<(), Refusal> {
     Ok(())
 }
 
-/// A sheet's record by the rules: refusals 1 to 12.
+/// A sheet's record by the rules: refusals 1 to 12 with 20.
 pub fn record_of(sheet: &[u8], rules: RuleSet) -> Result<Vec<u8>, Refusal> {
     check(sheet, ROW_BYTES)?;
     let outcome = settle_sheet(&read_sheet(sheet), rules)?;

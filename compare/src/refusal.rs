@@ -1,7 +1,8 @@
-//! Document 01, "Refused sheets and calls", with request 2026-02: numbers and
-//! places.
+//! Document 01, "Refused sheets and calls", with requests 2026-02 and 2026-03:
+//! numbers and places.
 
-/// A refusal's number, and its place: the row for 6 and 7, else 0.
+/// A refusal's number, and its place: the row for 6, 7 and 20, the header
+/// field's byte in the sheet for 4, else 0.
 #[derive(Clone, Copy, Debug, PartialEq, Eq)]
 pub struct Refusal {
     pub number: u32,
@@ -46,15 +47,17 @@ pub const MONTH_STATE: u32 = 17;
 pub const NO_SUCH_UNIT: u32 = 18;
 /// sums
 pub const BAD_YEAR_SUMS: u32 = 19;
+/// clash
+pub const FIELD_CONFLICT: u32 = 20;
 
 /// A refusal at place 0.
 pub fn refuse<T>(number: u32) -> Result<T, Refusal> {
     Err(Refusal { number, place: 0 })
 }
 
-/// A refusal at the row `row`.
-pub fn refuse_at<T>(number: u32, row: usize) -> Result<T, Refusal> {
-    let place = row as u32;
+/// A refusal at a row or at a byte.
+pub fn refuse_at<T>(number: u32, place: usize) -> Result<T, Refusal> {
+    let place = place as u32;
     Err(Refusal { number, place })
 }
 

@@ -1,4 +1,4 @@
-//! Sheets that pass refusals 1 to 7, fixed and random.
+//! Sheets that pass refusals 1 to 7 and 20, fixed and random.
 
 use crate::rng::Rng;
 use crate::settle::hot_water_wh;

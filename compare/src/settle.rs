@@ -17,14 +17,15 @@ pub struct Outcome {
     pub numbers: Vec<u32>,
 }
 
-/// Settles a sheet for a statement list of `list_len` numbers: refusals 1 to 13.
+/// Settles a sheet for a statement list of `list_len` numbers: refusals 1 to 12
+/// with 20, then 13.
 pub fn settle(bytes: &[u8], list_len: usize) -> Result<Outcome, Refusal> {
     let outcome = settle_bytes(bytes)?;
     refuse_if(list_len != 8 * outcome.unit_count, BUFFER_LENGTH)?;
     Ok(outcome)
 }
 
-/// Settles a sheet: refusals 1 to 12.
+/// Settles a sheet: refusals 1 to 12 with 20.
 pub fn settle_bytes(bytes: &[u8]) -> Result<Outcome, Refusal> {
     check(bytes, ROW_BYTES)?;
     settle_sheet(&read_sheet(bytes), NEWEST)

@@ -1,4 +1,5 @@
-//! Document 01, "The sheet": layout, building from structs, refusals 1 to 7.
+//! Document 01, "The sheet", with request 2026-03: layout, building from
+//! structs, refusals 1 to 7 and 20.
 
 use crate::ranges::Range;
 use crate::refusal::*;
@@ -150,51 +151,40 @@ pub fn read_sheet(bytes: &[u8]) -> Sheet {
     Sheet { header, units }
 }
 
-/// Refusals 1 to 7. `unit_bytes` is 32 for a sheet alone and 64 for a sheet
-/// with its statement behind it, as in an archive record.
+/// Refusals 1 to 7 and 20. `unit_bytes` is 32 for a sheet alone and 64 for a
+/// sheet with its statement behind it, as in an archive record.
 pub fn check(bytes: &[u8], unit_bytes: usize) -> Result<(), Refusal> {
     refuse_if(bytes.len() < HEADER_BYTES, TOO_SHORT)?;
+    refuse_if(bytes[0..4] != *b"HCS\0", BAD_MAGIC)?;
+    refuse_if(get_u16(bytes, 4) != 1, UNSUPPORTED_VERSION)?;
     let header = read_header(bytes);
-    let count = usize::from(header.unit_count);
-    let length = HEADER_BYTES + unit_bytes * count;
-    refuse_first(&[
-        (BAD_MAGIC, bytes[0..4] != *b"HCS\0"),
-        (UNSUPPORTED_VERSION, get_u16(bytes, 4) != 1),
-        (HEADER_FIELD, !header_in_range(&header)),
-        (WRONG_LENGTH, bytes.len() != length),
-    ])?;
+    check_header(&header)?;
+    let length = HEADER_BYTES + unit_bytes * usize::from(header.unit_count);
+    refuse_if(bytes.len() != length, WRONG_LENGTH)?;
     check_rows(&read_sheet(bytes))
 }
 
-/// Refusals 6 and 7, row by row.
-fn check_rows(sheet: &Sheet) -> Result<(), Refusal> {
-    let mut id_before = None;
-    for (row, unit) in sheet.units.iter().enumerate() {
-        if !unit_in_range(&sheet.header, unit) {
-            return refuse_at(ROW_FIELD, row);
-        }
-        if id_before.is_some_and(|before| unit.id <= before) {
-            return refuse_at(ID_ORDER, row);
-        }
-        id_before = Some(unit.id);
+/// Refusal 4, at the byte of the first field that is out of range.
+fn check_header(header: &Header) -> Result<(), Refusal> {
+    let mut fields = vec![
+        (6, Range::Month.holds(header.month)),
+        (7, Range::Model.holds(header.model)),
+        (8, Range::UnitCount.holds(header.unit_count)),
+        (10, Range::Source.holds(header.source)),
+    ];
+    fields.extend(percentages_in_range(header));
+    fields.push((16, Range::SharedMeter.holds(header.shared_meter_wh)));
+    fields.push((20, Range::Price.holds(header.price)));
+    fields.extend(hot_water_inputs_in_range(header));
+    match fields.iter().find(|(_, in_range)| !in_range) {
+        Some(&(byte, _)) => refuse_at(HEADER_FIELD, byte),
+        None => Ok(()),
     }
-    Ok(())
 }
 
-/// Refusal 4's fields.
-fn header_in_range(header: &Header) -> bool {
-    Range::Month.holds(header.month)
-        && Range::Model.holds(header.model)
-        && Range::UnitCount.holds(header.unit_count)
-        && Range::Source.holds(header.source)
-        && percentages_in_range(header)
-        && Range::SharedMeter.holds(header.shared_meter_wh)
-        && Range::Price.holds(header.price)
-        && hot_water_inputs_in_range(header)
-}
-
-/// v, z, f by model; y, t by source.
-fn percentages_in_range(header: &Header) -> bool {
+/// v, z, f by model; y, t by source: each field's byte, and whether it is in
+/// range.
+fn percentages_in_range(header: &Header) -> [(usize, bool); 5] {
     let has_devices = header.model >= 3;
     let base_percent = match header.model {
         3 => Range::BasePercentModel3,
@@ -219,55 +209,116 @@ fn percentages_in_range(header: &Header) -> bool {
         2 => Range::LossFactor,
         _ => Range::LossFactorElse,
     };
-    base_percent.holds(header.base_percent)
-        && common_heat_percent.holds(header.common_heat_percent)
-        && common_water_percent.holds(header.common_water_percent)
-        && unmetered_factor.holds(header.unmetered_factor)
-        && loss_factor.holds(header.loss_factor)
+    [
+        (11, base_percent.holds(header.base_percent)),
+        (12, common_heat_percent.holds(header.common_heat_percent)),
+        (13, common_water_percent.holds(header.common_water_percent)),
+        (14, unmetered_factor.holds(header.unmetered_factor)),
+        (15, loss_factor.holds(header.loss_factor)),
+    ]
 }
 
-fn hot_water_inputs_in_range(header: &Header) -> bool {
-    let (first_range, later_range) = match header.source {
+fn hot_water_inputs_in_range(header: &Header) -> [(usize, bool); 6] {
+    let (first, later) = match header.source {
         0 => (Range::FirstInputSource0, Range::LaterInputElse),
         1 => (Range::FirstInputElse, Range::LaterInputElse),
         2 => (Range::FirstInputSource2, Range::LaterInputElse),
         _ => (Range::FirstInputElse, Range::LaterInputSource3),
     };
-    let [first, later @ ..] = header.hot_water_inputs;
-    first_range.holds(first) && later.iter().all(|&input| later_range.holds(input))
+    std::array::from_fn(|i| {
+        let range = if i == 0 { first } else { later };
+        (24 + 4 * i, range.holds(header.hot_water_inputs[i]))
+    })
 }
 
-/// Refusal 6's fields. Every id is in range by itself.
-pub fn unit_in_range(header: &Header, unit: &Unit) -> bool {
+/// Refusals 6, 20 and 7, row by row.
+fn check_rows(sheet: &Sheet) -> Result<(), Refusal> {
+    let mut id_before = None;
+    for (row, unit) in sheet.units.iter().enumerate() {
+        check_fields(&row_fields(&sheet.header, unit), row)?;
+        if id_before.is_some_and(|before| unit.id <= before) {
+            return refuse_at(ID_ORDER, row);
+        }
+        id_before = Some(unit.id);
+    }
+    Ok(())
+}
+
+/// Request 2026-03: at each field first its 6, then its 20.
+fn check_fields(fields: &[RowField], row: usize) -> Result<(), Refusal> {
+    for field in fields {
+        if !field.in_range() {
+            return refuse_at(ROW_FIELD, row);
+        }
+        if field.clashes() {
+            return refuse_at(FIELD_CONFLICT, row);
+        }
+    }
+    Ok(())
+}
+
+/// A field of a row: its value, its fixed range, and where it may clash the
+/// range that model, source, status or class allow.
+pub struct RowField {
+    pub value: u32,
+    pub range: Range,
+    pub allowed: Option<Range>,
+}
+
+impl RowField {
+    fn fixed(value: impl Into<u32>, range: Range) -> RowField {
+        RowField::new(value, range, None)
+    }
+
+    fn new(value: impl Into<u32>, range: Range, allowed: Option<Range>) -> RowField {
+        let value = value.into();
+        RowField {
+            value,
+            range,
+            allowed,
+        }
+    }
+
+    pub fn in_range(&self) -> bool {
+        self.range.holds(self.value)
+    }
+
+    pub fn clashes(&self) -> bool {
+        self.allowed.is_some_and(|range| !range.holds(self.value))
+    }
+}
+
+/// A row's fields in layout order. Every id is in range by itself.
+pub fn row_fields(header: &Header, unit: &Unit) -> [RowField; 10] {
     let status = match header.model {
-        1 | 2 => Range::StatusModels1And2,
-        _ => Range::StatusElse,
+        1 | 2 => Some(Range::StatusModels1And2),
+        _ => None,
     };
     let water_class = match header.source {
-        0 => Range::WaterClassSource0,
-        _ => Range::WaterClassElse,
+        0 => Some(Range::WaterClassSource0),
+        _ => None,
     };
     let reading = match (header.model, unit.status) {
-        (3 | 4, 0) => Range::ReadingModels3And4,
-        (5, 0) => Range::ReadingModel5,
-        _ => Range::ReadingElse,
+        (1 | 2, _) => Some(Range::ReadingModels1And2),
+        (_, 1..) => Some(Range::ReadingUnread),
+        (3 | 4, _) => Some(Range::ReadingModels3And4),
+        _ => None,
     };
-    let litres = match unit.water_class {
-        1 => Range::LitresClass1,
-        _ => Range::LitresElse,
+    let (litres, persons) = match unit.water_class {
+        0 => (Some(Range::LitresClass0), Some(Range::PersonsClass0)),
+        2 => (Some(Range::LitresClass2), None),
+        _ => (None, None),
     };
-    let persons = match unit.water_class {
-        0 => Range::PersonsClass0,
-        _ => Range::Persons,
-    };
-    status.holds(unit.status)
-        && water_class.holds(unit.water_class)
-        && Range::LocationFactor.holds(unit.location_factor)
-        && Range::HeatedArea.holds(unit.heated_area)
-        && Range::RiserSurface.holds(unit.riser_surface)
-        && Range::HeatLoad.holds(unit.heat_load_w)
-        && reading.holds(unit.reading)
-        && litres.holds(unit.litres)
-        && persons.holds(unit.persons)
-        && Range::Reserved.holds(unit.reserved)
+    [
+        RowField::new(unit.status, Range::Status, status),
+        RowField::new(unit.water_class, Range::WaterClass, water_class),
+        RowField::fixed(unit.location_factor, Range::LocationFactor),
+        RowField::fixed(unit.heated_area, Range::HeatedArea),
+        RowField::fixed(unit.riser_surface, Range::RiserSurface),
+        RowField::fixed(unit.heat_load_w, Range::HeatLoad),
+        RowField::new(unit.reading, Range::Reading, reading),
+        RowField::new(unit.litres, Range::Litres, litres),
+        RowField::new(unit.persons, Range::Persons, persons),
+        RowField::fixed(unit.reserved, Range::Reserved),
+    ]
 }

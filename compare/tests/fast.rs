@@ -3,6 +3,8 @@
 use compare::book::{self, BOOK_LEN, SUMS_LEN};
 use compare::damage::damaged_sheet;
 use compare::edges::{border_sheet, sheet_at_an_end};
+use compare::faults::faulty_sheet;
+use compare::refusal::Refusal;
 use compare::rng::Rng;
 use compare::rules::RuleSet;
 use compare::samples::random_sheet;
@@ -10,10 +12,11 @@ use compare::sheet::{build_sheet, get_u16};
 use compare::{apportion, fast, print, record, settle};
 
 fn random_bytes(rng: &mut Rng) -> Vec<u8> {
-    match rng.below(6) {
+    match rng.below(7) {
         0 => damaged_sheet(rng),
         1 => border_sheet(rng),
         2 => sheet_at_an_end(rng),
+        3 => faulty_sheet(rng),
         _ => build_sheet(&random_sheet(rng)),
     }
 }
@@ -66,7 +69,12 @@ fn records() {
         if let (0, Ok(record)) = (rng.below(3), record::record_of(&sheet, RuleSet::Archive1)) {
             plain = record;
         }
-        if rng.once_in(2) {
+        if expected.is_err() {
+            let rules = RuleSet::ALL[rng.below(2) as usize];
+            plain = [&record::head(rules), &sheet[..]].concat();
+            plain.resize(plain.len() + sheet.len().saturating_sub(48), 0);
+        }
+        if rng.once_in(4) {
             plain[4] = rng.below(4) as u8;
         }
         if rng.once_in(4) {
@@ -76,7 +84,9 @@ fn records() {
         let expected = record::read_record(&plain);
         match fast::record::read(&plain) {
             Ok(length) => assert_eq!((0, length), (expected.number, expected.part_length)),
-            Err(refusal) => assert_eq!(refusal.number, expected.number),
+            Err(Refusal { number, place }) => {
+                assert_eq!((number, place), (expected.number, expected.place));
+            }
         }
     }
 }
@@ -100,11 +110,14 @@ fn sums_beside(rng: &mut Rng, list: &[u32]) -> Vec<u64> {
 #[test]
 fn books() {
     let mut rng = Rng::new(33);
-    let mut answers = [0; 20];
+    let mut answers = [0; 21];
     for _ in 0..2_000 {
         let sheet = random_bytes(&mut rng);
         let mut plain: Vec<u32> = (0..BOOK_LEN).map(|_| rng.draw() as u32).collect();
-        book::open(&mut plain, &mut [0; SUMS_LEN], &sheet).ok();
+        if book::open(&mut plain, &mut [0; SUMS_LEN], &sheet).is_err() && rng.once_in(2) {
+            // Nobody's book, but a book.
+            plain.fill(0);
+        }
         for _ in 0..6 {
             let mut other = plain.clone();
             let mut sums = sums_beside(&mut rng, &plain);
@@ -130,7 +143,7 @@ fn books() {
             assert_eq!(fast::book::year(&plain, &sums, place), expected);
         }
     }
-    for number in [0, 6, 9, 15, 17, 19] {
+    for number in [0, 4, 6, 9, 15, 17, 19, 20] {
         assert!(answers[number] > 50, "few answers {number}: {answers:?}");
     }
 }

@@ -152,7 +152,7 @@ fn refusals() -> Vec<(usize, String, &'static str)> {
 fn numbers_names_and_texts_are_those_of_the_format() {
     let refusals = refusals();
     let numbers: Vec<usize> = refusals.iter().map(|refusal| refusal.0).collect();
-    assert_eq!(numbers, (1..=19).collect::<Vec<usize>>());
+    assert_eq!(numbers, (1..=20).collect::<Vec<usize>>());
     let mut members = vec!["HEATCOST_ACCEPTED = 0".to_string()];
     let mut cases = vec!["case HEATCOST_ACCEPTED: return \"accepted\";".to_string()];
     for (number, name, means) in refusals {

@@ -1,4 +1,4 @@
-//! Refusals 1 to 7 by hand, and building against reading.
+//! Refusals 1 to 7 and 20 by hand, and building against reading.
 
 use compare::cases::case_a;
 use compare::damage::put;
@@ -59,7 +59,7 @@ fn each_refusal() {
     assert_eq!(changed(&[(3, 1, 1)]), (2, 0));
     assert_eq!(changed(&[(4, 2, 2)]), (3, 0));
     assert_eq!(changed(&[(4, 2, 257)]), (3, 0));
-    assert_eq!(changed(&[(6, 1, 13)]), (4, 0));
+    assert_eq!(changed(&[(6, 1, 13)]), (4, 6));
     assert_eq!(changed(&[(8, 2, 2)]), (5, 0));
     assert_eq!(changed(&[(48 + 32 + 30, 2, 256)]), (6, 1));
     assert_eq!(changed(&[(48 + 64, 4, 12)]), (7, 2));
@@ -74,7 +74,7 @@ fn order_of_faults() {
     assert_eq!(changed(&[bad_field(1), bad_id(2)]), (6, 1));
     assert_eq!(changed(&[bad_field(1), bad_id(1)]), (6, 1));
     assert_eq!(changed(&[(4, 2, 0), (6, 1, 0)]), (3, 0));
-    assert_eq!(changed(&[(6, 1, 0), bad_field(0)]), (4, 0));
+    assert_eq!(changed(&[(6, 1, 0), bad_field(0)]), (4, 6));
 }
 
 #[test]
@@ -93,7 +93,7 @@ fn statement_list_is_tested_last() {
         settle(&bytes, 25),
         Err(Refusal {
             number: 4,
-            place: 0
+            place: 6
         })
     );
 }

@@ -8,6 +8,7 @@ use crate::tally::Tally;
 use crate::ways::Way;
 use compare::book::{block, matching_sums, BOOK_LEN, SUMS_LEN};
 use compare::calls::{random_call, sheet_of_building, Call};
+use compare::faults::faulty_sheet;
 use compare::plain_book::PlainBook;
 use compare::refusal::BAD_YEAR_SUMS;
 use compare::rng::Rng;
@@ -16,6 +17,8 @@ use compare::settle::settle_bytes;
 use std::fmt::Debug;
 
 const CALLS_A_BOOK: u64 = 60;
+/// A book is opened with so many more faulty sheets, for the ways to 4 and 20.
+const FAULTY_OPENINGS: u64 = 8;
 
 /// A call's name, and the names of its lists.
 type Names = [&'static str; 3];
@@ -62,7 +65,7 @@ impl Books<'_> {
         let expected = (side.open)(&mut ours.book, &mut ours.sums, sheet);
         let number = calls::open(&mut theirs.book, &mut theirs.sums, sheet);
         self.agree(OPEN, &input, expected, number)?;
-        Ok(self.count(OPEN[0], number, None, &[], tally))
+        Ok(self.count(OPEN[0], number, None, sheet, tally))
     }
 
     fn call(&mut self, rng: &mut Rng, call: &Call, tally: &mut Tally) -> Compared<u32> {
@@ -119,9 +122,9 @@ impl Books<'_> {
         Ok(self.count(YEAR[0], number, None, &[], tally))
     }
 
-    /// Counts an answer that both sides gave, and 19 by its way too: from the
-    /// month whose block goes off and the sheet whose numbers come. Refused, the
-    /// lists are still those before the call.
+    /// Counts an answer that both sides gave, and its way: 19's from the month
+    /// whose block goes off and the sheet whose numbers come. Refused, the lists
+    /// are still those before the call.
     fn count(
         &self,
         call: &str,
@@ -130,12 +133,12 @@ impl Books<'_> {
         sheet: &[u8],
         tally: &mut Tally,
     ) -> u32 {
-        tally.count(call, number);
+        tally.count_sheet(call, number, sheet);
         if number == BAD_YEAR_SUMS {
             let Lists { book, sums } = &self.theirs;
             let old = month.map_or(&[][..], |month| block(book, month as usize - 1));
             let new = settle_bytes(sheet).map_or(Vec::new(), |outcome| outcome.numbers);
-            tally.count_way(call, Way::of(sums, old, &new));
+            tally.count_way(call, Way::of_sums(sums, old, &new));
         }
         number
     }
@@ -192,6 +195,9 @@ pub fn compare_book(side: &Side, rng: &mut Rng, tally: &mut Tally) -> Compared<(
         books.theirs.sums.resize(len, 0);
     }
     books.open(&random_bytes(rng), tally)?;
+    for _ in 0..FAULTY_OPENINGS {
+        books.open(&faulty_sheet(rng), tally)?;
+    }
     Ok(())
 }
 

@@ -11,7 +11,7 @@ use compare::rng::Rng;
 
 /// A book has some sixty calls of its own, so that it comes once in so many
 /// rounds.
-const ROUNDS_A_BOOK: u64 = 200;
+const ROUNDS_A_BOOK: u64 = 125;
 
 /// The rounds have numbers of their own, so that each can be run alone.
 pub fn compare_round(side: &Side, seed: u64, round: u64, tally: &mut Tally) -> Compared<()> {
@@ -34,7 +34,7 @@ fn compare_settle(side: &Side, rng: &mut Rng, sheet: &[u8], tally: &mut Tally) -
     let expected = (side.settle)(sheet, &mut ours);
     let number = calls::settle(sheet, &mut theirs);
     same("settle", sheet, expected, number)?;
-    tally.count("settle", number);
+    tally.count_sheet("settle", number, sheet);
     same("settle: statement", sheet, ours, theirs)
 }
 
@@ -47,7 +47,7 @@ fn compare_write(side: &Side, rng: &mut Rng, sheet: &[u8], tally: &mut Tally) ->
     let number = calls::write_record(sheet, &mut theirs);
     same("write", sheet, expected, number)?;
     same("write: record", sheet, &ours, &theirs)?;
-    tally.count("write", number);
+    tally.count_sheet("write", number, sheet);
     Ok(theirs)
 }
 
@@ -56,7 +56,7 @@ fn compare_read(side: &Side, bytes: &[u8], tally: &mut Tally) -> Compared<()> {
     let number = calls::read_record(bytes);
     same("read", bytes, expected, number)?;
     let len = calls::record_sheet_len(bytes);
-    tally.count("read", number);
+    tally.count_sheet("read", number, bytes.get(8..).unwrap_or(&[]));
     same("read: sheet length", bytes, expected_len, len)
 }
 

@@ -4,6 +4,7 @@ use compare::book::{block, matching_sums, BOOK_LEN, SUMS_LEN};
 use compare::calls::Call;
 use compare::damage::{damage, damaged_sheet, put};
 use compare::edges::{border_sheet, sheet_at_an_end};
+use compare::faults::faulty_sheet;
 use compare::record::{head, named_rules, record_of};
 use compare::rng::Rng;
 use compare::rules::RuleSet;
@@ -13,11 +14,12 @@ use compare::sheet::{build_sheet, get_u16};
 
 /// A sheet, good or bad, or any bytes.
 pub fn random_bytes(rng: &mut Rng) -> Vec<u8> {
-    match rng.below(16) {
+    match rng.below(19) {
         0..=5 => build_sheet(&random_sheet(rng)),
         6..=8 => border_sheet(rng),
         9..=11 => sheet_at_an_end(rng),
         12..=14 => damaged_sheet(rng),
+        15..=17 => faulty_sheet(rng),
         _ => (0..rng.below(200)).map(|_| rng.draw() as u8).collect(),
     }
 }

@@ -1,20 +1,31 @@
-//! How often each answer was seen, by call and by the refusal's number, and 19
-//! by the way to it too.
+//! How often each answer was seen, by call and by the refusal's number, and
+//! where a refusal has several ways by these too.
 
 use crate::ways::Way;
 
 pub const CALLS: [&str; 8] = [
     "settle", "write", "read", "open", "post", "replace", "withdraw", "year",
 ];
+/// The numbers of answers, 0 for accepted.
+const NUMBERS: usize = 21;
 /// A refusal seen less often than this in a million rounds is a gap.
 const SELDOM: u64 = 1_000;
-/// The same for a way to 19 in a call that has it.
+/// The same for a way in a call that has it.
 const SELDOM_WAY: u64 = 100;
 
-#[derive(Default)]
 pub struct Tally {
-    seen: [[u64; CALLS.len()]; 20],
-    ways: [[u64; CALLS.len()]; Way::ALL.len()],
+    seen: [[u64; CALLS.len()]; NUMBERS],
+    ways: Vec<(Way, [u64; CALLS.len()])>,
+}
+
+impl Default for Tally {
+    fn default() -> Tally {
+        let unseen = |way| (way, [0; CALLS.len()]);
+        Tally {
+            seen: Default::default(),
+            ways: Way::all().into_iter().map(unseen).collect(),
+        }
+    }
 }
 
 impl Tally {
@@ -22,12 +33,21 @@ impl Tally {
         self.seen[answer as usize % 256][column(call)] += 1;
     }
 
+    /// The same for a call with a sheet.
+    pub fn count_sheet(&mut self, call: &str, answer: u32, sheet: &[u8]) {
+        self.count(call, answer);
+        if let Some(way) = Way::of_sheet(answer, sheet) {
+            self.count_way(call, way);
+        }
+    }
+
     pub fn count_way(&mut self, call: &str, way: Way) {
-        self.ways[way as usize][column(call)] += 1;
+        let row = self.ways.iter_mut().find(|(other, _)| *other == way);
+        row.expect("a way").1[column(call)] += 1;
     }
 
     pub fn print(&self) {
-        print!("{:16}", "answer");
+        print!("{:21}", "answer");
         for call in CALLS {
             print!(" {call:>9}");
         }
@@ -35,19 +55,19 @@ impl Tally {
         for (number, row) in self.seen.iter().enumerate() {
             print_row(&number.to_string(), row);
         }
-        for (way, row) in Way::ALL.iter().zip(&self.ways) {
-            print_row(way.name(), row);
+        for (way, row) in &self.ways {
+            print_row(&way.name(), row);
         }
     }
 
-    /// The answers, and the ways to 19, that were seen too seldom.
+    /// The answers, and the ways to them, that were seen too seldom.
     pub fn seldom(&self) -> Vec<String> {
         let total = |number: &usize| self.seen[*number].iter().sum::<u64>();
         let numbers = (0..self.seen.len()).filter(|number| total(number) < SELDOM);
         let mut seldom: Vec<String> = numbers.map(|number| number.to_string()).collect();
-        for way in Way::ALL {
+        for (way, row) in &self.ways {
             for call in way.calls() {
-                if self.ways[way as usize][column(call)] < SELDOM_WAY {
+                if row[column(call)] < SELDOM_WAY {
                     seldom.push(format!("{} in {call}", way.name()));
                 }
             }
@@ -62,7 +82,7 @@ fn column(call: &str) -> usize {
 }
 
 fn print_row(name: &str, row: &[u64]) {
-    print!("{name:16}");
+    print!("{name:21}");
     for count in row {
         print!(" {count:9}");
     }

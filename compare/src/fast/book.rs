@@ -84,7 +84,7 @@ pub fn year(list: &[u32], sums: &[u64], place: u32) -> Result<YearSums, Refusal>
     })
 }
 
-/// Refusals 15, 1 to 12, 16, and 17 unless the month's mark is `mark`.
+/// Refusals 15, 1 to 12 with 20, 16, and 17 unless the month's mark is `mark`.
 fn entered<'a>(list: &[u32], sheet: &'a [u8], mark: u32) -> Result<Month<'a>, Refusal> {
     check_book(list)?;
     let month = Month::of(sheet, 32, NEWEST)?;

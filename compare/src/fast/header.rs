@@ -44,6 +44,16 @@ fn within(value: u8, (lowest, highest): (u8, u8)) -> bool {
     value >= lowest && value <= highest
 }
 
+/// Refusal 4 at a byte, unless its field is right.
+#[inline(always)]
+fn right(byte: usize, is_right: bool) -> Result<(), Refusal> {
+    if is_right {
+        Ok(())
+    } else {
+        refuse_at(HEADER_FIELD, byte)
+    }
+}
+
 impl Header {
     /// Refusals 1 to 5.
     pub fn of(bytes: &[u8], unit_bytes: usize) -> Result<Header, Refusal> {
@@ -74,29 +84,33 @@ impl Header {
             price: number(20),
             inputs: std::array::from_fn(|i| number(24 + 4 * i)),
         };
-        refuse_if(!header.in_range(head), HEADER_FIELD)?;
+        header.check(head)?;
         let length = 48 + unit_bytes * header.unit_count;
         refuse_if(bytes.len() != length, WRONG_LENGTH)?;
         Ok(header)
     }
 
-    fn in_range(&self, head: &[u8; 48]) -> bool {
-        if !within(self.month, (1, 12)) || !within(self.model, (1, 5)) || self.source > 3 {
-            return false;
-        }
+    /// Refusal 4, at the first wrong field's byte.
+    fn check(&self, head: &[u8; 48]) -> Result<(), Refusal> {
+        right(6, within(self.month, (1, 12)))?;
+        right(7, within(self.model, (1, 5)))?;
+        right(8, (1..=160).contains(&self.unit_count))?;
+        right(10, self.source <= 3)?;
         let [v, z, f] = BY_MODEL[usize::from(self.model) - 1];
         let [y, t] = BY_SOURCE[usize::from(self.source)];
         let (first, later) = HIGHEST_INPUTS[usize::from(self.source)];
-        (1..=160).contains(&self.unit_count)
-            && within(head[11], v)
-            && within(head[12], z)
-            && within(head[13], y)
-            && within(head[14], f)
-            && within(head[15], t)
-            && self.shared_meter_wh <= 4_000_000_000
-            && self.price <= 100_000
-            && self.inputs[0] <= first
-            && self.inputs[1..].iter().all(|&input| input <= later)
+        right(11, within(head[11], v))?;
+        right(12, within(head[12], z))?;
+        right(13, within(head[13], y))?;
+        right(14, within(head[14], f))?;
+        right(15, within(head[15], t))?;
+        right(16, self.shared_meter_wh <= 4_000_000_000)?;
+        right(20, self.price <= 100_000)?;
+        right(24, self.inputs[0] <= first)?;
+        for (place, &input) in self.inputs.iter().enumerate().skip(1) {
+            right(24 + 4 * place, input <= later)?;
+        }
+        Ok(())
     }
 
     /// H, rounded up.

@@ -14,7 +14,7 @@ use crate::refusal::{refuse_if, Refusal, BUFFER_LENGTH};
 use crate::rules::NEWEST;
 use month::Month;
 
-/// Settles a sheet into a list of 8n numbers: refusals 1 to 13.
+/// Settles a sheet into a list of 8n numbers: refusals 1 to 12 with 20, then 13.
 pub fn settle<const RECIPROCAL: bool>(sheet: &[u8], statement: &mut [u32]) -> Result<(), Refusal> {
     let month = Month::of(sheet, 32, NEWEST)?;
     refuse_if(statement.len() != 8 * month.rows.len(), BUFFER_LENGTH)?;

@@ -17,8 +17,8 @@ pub struct Month<'a> {
 }
 
 impl<'a> Month<'a> {
-    /// Refusals 1 to 12. `unit_bytes` is 64 where the statement is behind the
-    /// rows, else 32.
+    /// Refusals 1 to 12 with 20. `unit_bytes` is 64 where the statement is
+    /// behind the rows, else 32.
     pub fn of(bytes: &'a [u8], unit_bytes: usize, rules: RuleSet) -> Result<Month<'a>, Refusal> {
         let header = Header::of(bytes, unit_bytes)?;
         let (rows, _) = bytes[48..48 + 32 * header.unit_count].as_chunks::<32>();

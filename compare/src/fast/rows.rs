@@ -1,7 +1,8 @@
-//! The rows: fields, refusals 6 and 7, and all sums in the same pass.
+//! The rows: fields, refusals 6, 7 and 20, and all sums in the same pass.
 
 use super::header::Header;
 use crate::refusal::*;
+use std::ops::RangeInclusive;
 
 #[derive(Clone, Copy)]
 pub struct Row<'a>(pub &'a [u8; 32]);
@@ -114,12 +115,20 @@ impl Highest {
         }
     }
 
-    /// Refusal 6's fields, without a branch a field.
+    /// The highest reading, litres and persons, by the row's status and class.
+    #[inline(always)]
+    fn in_row(&self, row: Row) -> (u64, u64, u64) {
+        (
+            if row.status() == 0 { self.reading } else { 0 },
+            if row.water_class() == 1 { 1_000_000 } else { 0 },
+            if row.water_class() == 0 { 0 } else { 50 },
+        )
+    }
+
+    /// Whether no field is out of range or clashes, without a branch a field.
     #[inline(always)]
     fn fits(&self, row: Row) -> bool {
-        let reading = if row.status() == 0 { self.reading } else { 0 };
-        let litres = if row.water_class() == 1 { 1_000_000 } else { 0 };
-        let persons = if row.water_class() == 0 { 0 } else { 50 };
+        let (reading, litres, persons) = self.in_row(row);
         (row.status() <= self.status)
             & (row.water_class() <= self.water_class)
             & (row.location_factor().wrapping_sub(1) < 1_000)
@@ -131,9 +140,36 @@ impl Highest {
             & (row.persons() <= persons)
             & (row.short(30) == 0)
     }
+
+    /// What refuses a row that doesn't fit, by its first wrong field: 6 or 20.
+    #[cold]
+    fn fault(&self, row: Row) -> u32 {
+        let (reading, litres, persons) = self.in_row(row);
+        // A value, its fixed range, and the highest that doesn't clash.
+        let fields = [
+            (row.status().into(), 0..=4, self.status.into()),
+            (row.water_class().into(), 0..=2, self.water_class.into()),
+            (row.location_factor(), 1..=1_000, 1_000),
+            (row.heated_area(), 1..=10_000, 10_000),
+            (row.riser_surface(), 0..=10_000, 10_000),
+            (row.heat_load(), 0..=100_000, 100_000),
+            (row.reading(), 0..=25_000_000, reading),
+            (row.litres(), 0..=1_000_000, litres),
+            (row.persons(), 0..=50, persons),
+        ];
+        let clash = |(value, range, highest): &(u64, RangeInclusive<u64>, u64)| {
+            let in_range = range.contains(value);
+            (!in_range || value > highest).then_some(in_range)
+        };
+        match fields.iter().find_map(clash) {
+            Some(true) => FIELD_CONFLICT,
+            // The last two bytes have no clash.
+            _ => ROW_FIELD,
+        }
+    }
 }
 
-/// Refusals 6 and 7, and the sums of rows that pass.
+/// Refusals 6, 20 and 7, and the sums of rows that pass.
 pub fn check_and_sum(header: &Header, rows: &[[u8; 32]]) -> Result<Sums, Refusal> {
     let highest = Highest::of(header);
     let mut sums = Sums::default();
@@ -142,7 +178,7 @@ pub fn check_and_sum(header: &Header, rows: &[[u8; 32]]) -> Result<Sums, Refusal
     for (place, row) in rows.iter().enumerate() {
         let row = Row(row);
         if !highest.fits(row) {
-            return refuse_at(ROW_FIELD, place);
+            return refuse_at(highest.fault(row), place);
         }
         if row.id() < lowest_id {
             return refuse_at(ID_ORDER, place);

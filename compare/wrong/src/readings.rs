@@ -11,6 +11,10 @@ macro_rules! readings {
             $($name,)*
             /// A range with one end off by one.
             Ends(Range, End),
+            /// A row field outside its fixed range answered 20.
+            RowAsClash(Range),
+            /// A row field outside the range that it clashes by answered 6.
+            ClashAsRow(Range),
         }
 
         const NAMED: &[(Reading, &str)] = &[$((Reading::$name, $text),)*];
@@ -41,8 +45,8 @@ readings! {
     VersionBeforeMark "3 tested before 2",
     HeaderBeforeVersion "4 tested before 3",
     LengthBeforeHeader "5 tested before 4",
-    OrderBeforeRow "7 tested before 6",
-    RowsBeforeOrders "6 of all rows tested before 7",
+    OrderBeforeRow "7 tested before 6 and 20",
+    RowsBeforeOrders "6 and 20 of all rows tested before 7",
     RowFromOne "the row's place counted from 1",
     PlaceAlwaysZero "6 and 7 without their row",
     DivisorBeforeWater "9 tested before 8",
@@ -301,6 +305,45 @@ readings! {
     YearCompares "year: 19 when the unit's sums don't match",
     YearAddsBlocks "year adds the blocks",
     YearNextPlace "year reads the next place's sums",
+
+    // Request 2026-03, 20
+    ClashBeforeRange "20 tested before the field's 6",
+    ClashBeforeFields "20 tested before all 6 of its row",
+    ClashAfterFields "20 tested after all 6 of its row",
+    ClashAtComparedField "20 tested at the field that it clashes with",
+    ClashAfterOrder "20 tested after its row's 7",
+    ClashAfterRows "20 tested after 6 and 7 of all rows",
+    ClashAfterMonth "20 tested after 8 to 12",
+    ClashAfterList "20 tested after 13",
+    ClashAfterBuilding "20 tested after 16",
+    ClashAfterStanding "20 tested after 17",
+    ClashAfterSums "20 tested after 19's length",
+    ClashWithoutRow "20 with place 0",
+    ClashAtRowByte "20 with the field's byte in the row as place",
+    ClashAtSheetByte "20 with the field's byte in the sheet as place",
+    OpeningTakesClash "opening lets 20 pass",
+    RecordClashAs14 "20 in a record answered 14",
+    Version1ClashAsRow "20 in a record of archive version 1 answered 6",
+    RecordRowAtByte "6 in a record with the row's byte as place",
+    ReadingRangeByModel "b's fixed range goes by model",
+    ReadingRangeOfImpulses "b's fixed range ends at 50,000 in models 3 and 4",
+    ReadingPastRangeClashes "b above 25,000,000 in models 1 and 2 answered 20",
+    LargestReadingClashes "b of 25,000,000 in model 5 answered 20",
+    PersonsOfClass2Clash "persons of class 2 clash",
+
+    // Request 2026-03, 4
+    HeaderWithoutByte "4 with place 0",
+    HeaderByFieldNumber "4's place is the field's number from 0",
+    HeaderFromRecord "4's byte counted from the record's start",
+    Version1HeaderWithoutByte "4 with place 0 in a record of archive version 1",
+    HeaderAtLastFault "4 at the last wrong field",
+    HeaderModelFieldsFirst "4: v, z, f tested before y, t",
+    HeaderAtModel "4 at the model when v, z or f is wrong",
+    HeaderAtSource "4 at the source when y, t or h is wrong",
+    HeaderClashAsClash "4 answered 20 when v, z, y, f, t or h is wrong",
+    UnitCountAtByte9 "4: n at byte 9",
+    MeterAtByte17 "4: M at byte 17",
+    InputsAtByte24 "4: h1 to h6 all at byte 24",
 }
 
 impl Reading {
@@ -310,7 +353,9 @@ impl Reading {
             let ends = ends_to_shift(range).into_iter();
             ends.map(move |end| Reading::Ends(range, end))
         });
-        named.chain(ends).collect()
+        let fixed = Range::OF_ROWS.map(Reading::RowAsClash);
+        let clashes = Range::CLASHES.map(Reading::ClashAsRow);
+        named.chain(ends).chain(fixed).chain(clashes).collect()
     }
 
     pub fn description(self) -> String {
@@ -319,6 +364,8 @@ impl Reading {
                 let (lowest, highest) = shifted(range, end);
                 format!("{range:?} from {lowest} to {highest}")
             }
+            Reading::RowAsClash(range) => format!("{range:?}: out of range answered 20"),
+            Reading::ClashAsRow(range) => format!("{range:?}: a clash answered 6"),
             _ => {
                 let entry = NAMED.iter().find(|(reading, _)| *reading == self);
                 entry.expect("every reading is named").1.to_string()

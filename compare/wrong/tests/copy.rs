@@ -4,7 +4,8 @@
 use compare::calls::{random_call, sheet_of_building, Call};
 use compare::damage::damaged_sheet;
 use compare::edges::{border_sheet, sheet_at_an_end};
-use compare::record::record_of;
+use compare::faults::faulty_sheet;
+use compare::record::{head, record_of};
 use compare::rng::Rng;
 use compare::rules::RuleSet;
 use compare::samples::{random_ids, random_sheet};
@@ -16,12 +17,20 @@ fn same(copy: impl Debug, plain: impl Debug) {
 }
 
 fn random_bytes(rng: &mut Rng) -> Vec<u8> {
-    match rng.below(4) {
+    match rng.below(5) {
         0 => build_sheet(&random_sheet(rng)),
         1 => border_sheet(rng),
         2 => sheet_at_an_end(rng),
+        3 => faulty_sheet(rng),
         _ => damaged_sheet(rng),
     }
+}
+
+/// A refused sheet as a record.
+fn before_zeros(rules: RuleSet, sheet: &[u8]) -> Vec<u8> {
+    let mut record = [&head(rules), sheet].concat();
+    record.resize(8 + sheet.len() + sheet.len().saturating_sub(48), 0);
+    record
 }
 
 #[test]
@@ -49,10 +58,9 @@ fn sheets_texts_and_records() {
             compare::print::print_into(&sheet, &mut plain_text),
         );
         assert_eq!(text, plain_text);
-        if let (0, Ok(record)) = (rng.below(2), record_of(&sheet, RuleSet::Archive1)) {
-            plain = record;
-        }
-        plain[4] ^= [0, 0, 3][rng.below(3) as usize];
+        let rules = RuleSet::ALL[rng.below(2) as usize];
+        plain = record_of(&sheet, rules).unwrap_or_else(|_| before_zeros(rules, &sheet));
+        plain[4] ^= [0, 0, 0, 3][rng.below(4) as usize];
         let place = rng.below(plain.len() as u64) as usize;
         plain[place] ^= rng.below(2) as u8;
         same(

@@ -1,4 +1,4 @@
-//! Vectors for document 01's "Year book", with requests 2026-01 and 2026-02:
+//! Vectors for document 01's "Year book", with requests 2026-01 to 2026-03:
 //! calls on one book and its sums, one after the other.
 mod refused;
 mod run;
@@ -181,6 +181,7 @@ fn main() {
     run.whole_blocks();
     run.foreign_sums();
     run.last_unit();
+    run.clashes();
     run.random_sums(&mut rng);
     write_files(&run.stdin, &run.stdout);
 }

@@ -76,4 +76,39 @@ impl Run {
         self.open(&sheet);
         self.year(0);
     }
+
+    /// 20 and 4's byte before 16, 17 and 19, in each call with a sheet.
+    pub fn clashes(&mut self) {
+        self.open(&in_month(case_a(), 1));
+        self.post(&in_month(case_a(), 1));
+        // Row and header fields: litres, b with a status, b past 50,000 with an
+        // id, b past its range, h6.
+        let faults: [&[((usize, usize), u64)]; 5] = [
+            &[((48 + 64 + 24, 4), 1)],
+            &[((48 + 32 + 4, 1), 1)],
+            &[((48 + 32 + 20, 4), 50_001), ((48 + 32, 4), 0)],
+            &[((48 + 20, 4), 25_000_001), ((48 + 24, 4), 1)],
+            &[((44, 4), 1), ((48 + 24, 4), 1)],
+        ];
+        for lent in [1_280, 1_279] {
+            self.lend(lent);
+            for fault in faults {
+                for month in [1, 2] {
+                    let mut bad = in_month(case_a(), month);
+                    fault
+                        .iter()
+                        .for_each(|&(field, value)| put(&mut bad, field, value));
+                    self.post(&bad);
+                    self.replace(&bad);
+                    self.open(&bad);
+                    // Another building: one unit less.
+                    put(&mut bad, (8, 2), 2);
+                    bad.drain(48..80);
+                    self.post(&bad);
+                }
+            }
+        }
+        self.lend(1_280);
+        self.years();
+    }
 }

@@ -1,5 +1,5 @@
-//! Vectors for document 01's "Steps of a month" and "Printing", with request
-//! 2026-01.
+//! Vectors for document 01's "Steps of a month" and "Printing", with requests
+//! 2026-01 and 2026-03.
 mod heat;
 mod refused;
 mod water;
@@ -202,6 +202,7 @@ fn main() {
     sheets.add_pool_weights();
     sheets.add_refusal_pairs();
     sheets.add_bad_sheets();
+    sheets.add_clashes();
     sheets.add_large(&mut rng);
     sheets.add_random(&mut rng);
 

@@ -1,4 +1,4 @@
-//! Refusals 8 to 12, and two at once.
+//! Refusals 8 to 12 and 20, and two at once.
 
 use super::*;
 
@@ -103,5 +103,38 @@ impl Sheets {
             sheet.units[2].id = 0;
             sheet.header.hot_water_inputs[0] = MAX_WH;
         });
+    }
+
+    /// 20 alone, against 8 to 12, and 4 with its byte.
+    pub fn add_clashes(&mut self) {
+        self.add_changed(&good_sheet(1, 0), |sheet| sheet.units[2].status = 1);
+        self.add_changed(&case_a(), |sheet| sheet.units[1].water_class = 1);
+        self.add_changed(&case_a(), |sheet| sheet.units[1].status = 2);
+        self.add_changed(&case_a(), |sheet| sheet.units[2].reading = 50_001);
+        self.add_changed(&good_sheet(5, 1), |sheet| sheet.units[2].litres = 1);
+        self.add_changed(&case_a(), |sheet| sheet.units[0].persons = 1);
+        // 8, 9, 10, 11, 12 in turn.
+        self.add_changed(&good_sheet(2, 1), |sheet| {
+            sheet.header.hot_water_inputs[0] = MAX_WH;
+            sheet.units[0].litres = 1;
+        });
+        self.add_changed(&good_sheet(1, 0), |sheet| {
+            for unit in &mut sheet.units {
+                unit.heat_load_w = 0;
+            }
+            sheet.units[1].reading = 1;
+        });
+        self.add_changed(&good_sheet(3, 0), |sheet| {
+            for unit in &mut sheet.units {
+                unit.status = 1;
+            }
+        });
+        self.add_changed(&good_sheet(5, 0), |sheet| {
+            sheet.units[0].reading = 25_000_000;
+            sheet.units[2].persons = 1;
+        });
+        self.add_changed(&two_units(31), |sheet| sheet.units[1].water_class = 2);
+        self.add_changed(&case_a(), |sheet| sheet.header.hot_water_inputs[5] = 1);
+        self.add_changed(&case_a(), |sheet| sheet.header.base_percent = 31);
     }
 }

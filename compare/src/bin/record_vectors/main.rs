@@ -1,4 +1,6 @@
-//! Vectors for document 01's "Archive record", with request 2026-01.
+//! Vectors for document 01's "Archive record", with requests 2026-01 and
+//! 2026-03.
+mod clashes;
 mod versions;
 
 use compare::cases::*;
@@ -229,6 +231,8 @@ fn main() {
     for rules in RuleSet::ALL {
         records.add_refused(rules);
         records.add_other_statements(rules);
+        records.add_header_places(rules);
+        records.add_clashes(rules);
     }
     records.add_large(&mut rng);
     records.add_random(&mut rng);

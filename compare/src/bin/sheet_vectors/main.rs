@@ -1,9 +1,12 @@
-//! Vectors for document 01's "The sheet": refusals 1 to 7.
+//! Vectors for document 01's "The sheet", with request 2026-03: refusals 1 to 7
+//! and 20.
+mod clashes;
 mod header;
 mod rows;
 
 use compare::cases::case_a;
 use compare::damage::{damaged_sheet, put};
+use compare::faults::faulty_sheet;
 use compare::rng::Rng;
 use compare::samples::{good_sheet, random_ids, random_sheet_of};
 use compare::sheet::{build_sheet, check, MAX_WH};
@@ -192,6 +195,8 @@ impl Sheets {
         self.add(full.clone());
         self.add_set(&full, &[(row_field(159, RESERVED), 1)]);
         self.add_set(&full, &[(row_field(159, ID), 0)]);
+        let status = (row_field(159, STATUS), 1);
+        self.add_set(&full, &[status, (row_field(159, READING), 1)]);
         self.add_set(
             &full,
             &[(row_field(100, ID), 0), (row_field(101, HEATED_AREA), 0)],
@@ -209,8 +214,12 @@ impl Sheets {
 
     fn add_damaged(&mut self, rng: &mut Rng) {
         let mut count = 0;
-        while count < 40 {
-            let bytes = damaged_sheet(rng);
+        while count < 80 {
+            let bytes = if count % 2 == 0 {
+                damaged_sheet(rng)
+            } else {
+                faulty_sheet(rng)
+            };
             if bytes.len() < 400 {
                 self.add(bytes);
                 count += 1;
@@ -231,6 +240,10 @@ fn main() {
     sheets.add_reading_ranges();
     sheets.add_water_ranges();
     sheets.add_ids();
+    sheets.add_clashes();
+    sheets.add_water_clashes();
+    sheets.add_clash_pairs();
+    sheets.add_header_places();
     sheets.add_fault_pairs();
     sheets.add_counts(&mut rng);
     sheets.add_large(&mut rng);

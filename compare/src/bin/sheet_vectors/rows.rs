@@ -29,7 +29,7 @@ impl Sheets {
         self.add_values(&base, row_field(0, RESERVED), &[255]);
     }
 
-    /// Refusal 6, status and reading by model, reading by status.
+    /// Refusals 6 and 20, status and reading by model, reading by status.
     pub fn add_reading_ranges(&mut self) {
         for (model, highest) in [(1, 0), (2, 0), (3, 50_000), (4, 50_000), (5, 25_000_000)] {
             let base = good_bytes(model, 0);
@@ -46,7 +46,7 @@ impl Sheets {
         }
     }
 
-    /// Refusal 6, water class by source, litres and persons by class.
+    /// Refusals 6 and 20, water class by source, litres and persons by class.
     pub fn add_water_ranges(&mut self) {
         for source in 0..=3 {
             let base = good_bytes(3, source);

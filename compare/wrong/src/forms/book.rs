@@ -1,5 +1,6 @@
 //! Wrong readings of "Year book".
 
+use super::sheet::clash_after;
 use super::sums;
 use crate::book::*;
 use crate::refusal::*;
@@ -43,6 +44,14 @@ pub fn before_opening(list: &[u32], sheet: &[u8]) -> Result<(), Refusal> {
     }
 }
 
+/// What the sheet's check answers at opening.
+pub fn opening_check(answer: Result<(), Refusal>) -> Result<(), Refusal> {
+    match answer {
+        Err(refusal) if misread(OpeningTakesClash) && refusal.number == FIELD_CONFLICT => Ok(()),
+        _ => answer,
+    }
+}
+
 /// The part of the book that opening fills with zeros.
 pub fn zeroed(list: &mut [u32]) -> &mut [u32] {
     match current() {
@@ -59,20 +68,24 @@ pub fn after_opening(list: &mut [u32], sums: &mut [u64], sheet: &[u8]) {
     }
 }
 
-/// 16 and 17 before 8 to 12.
+/// 16 and 17 before 8 to 12, or before 20.
 pub fn before_settling(list: &[u32], sheet: &[u8], month_posted: bool) -> Result<(), Refusal> {
-    let building = misread(BuildingBeforeMonth);
-    if !building && !misread(StandingBeforeSettling) {
+    let before_clash = |reading| clash_after(reading, sheet);
+    let building = misread(BuildingBeforeMonth) || before_clash(ClashAfterBuilding);
+    let standing = misread(StandingBeforeSettling) || before_clash(ClashAfterStanding);
+    if !building && !standing {
         return Ok(());
     }
-    check(sheet, ROW_BYTES)?;
+    if misread(BuildingBeforeMonth) || misread(StandingBeforeSettling) {
+        check(sheet, ROW_BYTES)?;
+    }
     let read = read_sheet(sheet);
     let ids = (0..read.units.len()).map(|row| get_u32(sheet, 48 + 32 * row));
     let kept = &list[IDS..IDS + read.units.len()];
     let same = list[UNIT_COUNT] as usize == kept.len() && ids.eq(kept.iter().copied());
     refuse_if(building && !same, OTHER_BUILDING)?;
     let stands = list[MARKS + usize::from(read.header.month) - 1] == 1;
-    refuse_if(!building && stands != month_posted, MONTH_STATE)
+    refuse_if(standing && stands != month_posted, MONTH_STATE)
 }
 
 /// Whether the building is taken as the book's.

@@ -4,11 +4,13 @@
 pub mod bill;
 pub mod book;
 pub mod dividing;
+pub mod header;
 pub mod heat;
 pub mod print;
 pub mod ranges;
 pub mod record;
 pub mod refusals;
+pub mod rows;
 pub mod rules;
 pub mod sheet;
 pub mod splits;

@@ -1,6 +1,6 @@
 //! Wrong readings of "Printing" and of the list that the text goes to.
 
-use crate::refusal::{BUFFER_LENGTH, ID_ORDER, ROW_FIELD};
+use crate::refusal::{BUFFER_LENGTH, FIELD_CONFLICT, ID_ORDER, ROW_FIELD};
 use crate::settle::Outcome;
 use crate::{current, misread, Reading::*};
 
@@ -42,7 +42,7 @@ pub fn refusal(number: u32, place: u32) -> Option<String> {
     match current()? {
         PrintedWithoutPlace => Some(format!("refused {number}\n")),
         PrintedPlaceFromOne => {
-            let has_row = matches!(number, ROW_FIELD | ID_ORDER);
+            let has_row = matches!(number, ROW_FIELD | ID_ORDER | FIELD_CONFLICT);
             Some(format!("refused {number} {}\n", place + u32::from(has_row)))
         }
         PrintedAnswer => Some(format!("refused {}\n", number + 256 * place)),

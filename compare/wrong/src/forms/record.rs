@@ -1,5 +1,6 @@
 //! Wrong readings of "Archive record".
 
+use super::sheet::clash_after;
 use crate::record::{head, record_of, HEAD_BYTES};
 use crate::refusal::*;
 use crate::rules::RuleSet;
@@ -46,14 +47,19 @@ pub fn before_head(record: &[u8], head_len: usize) -> Result<(), Refusal> {
 }
 
 /// A refusal of the sheet inside a record.
-pub fn sheet_refusal(refusal: Refusal) -> Refusal {
-    if misread(StatementBeforeSheet) && refusal.number >= ROW_FIELD {
-        return Refusal {
-            number: BAD_ARCHIVE,
-            place: 0,
-        };
-    }
-    refusal
+pub fn sheet_refusal(rules: RuleSet, refusal: Refusal) -> Refusal {
+    let Refusal { number, place } = refusal;
+    let is_old = rules == RuleSet::Archive1;
+    let (number, place) = match (current(), number) {
+        (Some(StatementBeforeSheet), ROW_FIELD..) => (BAD_ARCHIVE, 0),
+        (Some(RecordClashAs14), FIELD_CONFLICT) => (BAD_ARCHIVE, 0),
+        (Some(Version1ClashAsRow), FIELD_CONFLICT) if is_old => (ROW_FIELD, place),
+        (Some(Version1HeaderWithoutByte), HEADER_FIELD) if is_old => (number, 0),
+        (Some(HeaderFromRecord), HEADER_FIELD) => (number, place + 8),
+        (Some(RecordRowAtByte), ROW_FIELD) => (number, 56 + 32 * place),
+        _ => (number, place),
+    };
+    Refusal { number, place }
 }
 
 /// Whether a statement passes that differs.
@@ -98,10 +104,8 @@ pub fn list_first(sheet: &[u8], list_len: usize) -> Result<(), Refusal> {
         usize::from(get_u16(sheet, 8))
     };
     let wanted = 56 + RECORD_UNIT_BYTES * count;
-    refuse_if(
-        misread(RecordListFirst) && list_len != wanted,
-        BUFFER_LENGTH,
-    )
+    let first = misread(RecordListFirst) || clash_after(ClashAfterList, sheet);
+    refuse_if(first && list_len != wanted, BUFFER_LENGTH)
 }
 
 /// The part of a record list that the writer takes.

@@ -1,5 +1,6 @@
 //! Wrong readings of request 2026-02, the sums beside a year book.
 
+use super::sheet::clash_after;
 use crate::book::*;
 use crate::refusal::*;
 use crate::settle::Outcome;
@@ -13,12 +14,10 @@ pub fn before_book(sums: &[u64]) -> Result<(), Refusal> {
     )
 }
 
-/// 19 by length before the sheet's refusals.
-pub fn before_sheet(sums: &[u64]) -> Result<(), Refusal> {
-    refuse_if(
-        misread(SumsBeforeSheet) && sums.len() != SUMS_LEN,
-        BAD_YEAR_SUMS,
-    )
+/// 19 by length before the sheet's refusals, or before 20.
+pub fn before_sheet(sums: &[u64], sheet: &[u8]) -> Result<(), Refusal> {
+    let first = misread(SumsBeforeSheet) || clash_after(ClashAfterSums, sheet);
+    refuse_if(first && sums.len() != SUMS_LEN, BAD_YEAR_SUMS)
 }
 
 /// 19 before 18.
