@@ -14,9 +14,9 @@ use Rattle.sheet.specs.Refusals.{_⇒_, firstRefusal}
 use Rattle.sheet.specs.Inner.Places.{PlaceBelow}
 use Rattle.sheet.specs.RuleSets.{newest}
 use Rattle.sheet.specs.Layout.{sheetOf, inBytes}
-use Rattle.sheet.specs.Check.{sameList}
-use Rattle.sheet.proofs.Places.{place-rule, sheet-place}
-use Rattle.month.specs.Month.{Month, monthOf, statementOf, settleRules, unlessRefused, settledSheet}
+use Rattle.sheet.specs.Check.{sameList, sheetRules}
+use Rattle.sheet.proofs.Places.{place-rule, both-place, sheet-place}
+use Rattle.month.specs.Month.{Month, monthOf, statementOf, settleRules, unlessRefused, settledSheet, monthRules}
 use Rattle.month.proofs.Places.{month-place, settle-place}
 use Rattle.settlement.proofs.Places.{length-place}
 use Rattle.archive.specs.Writer.{answerOf, writeAnswer}
@@ -36,7 +36,8 @@ read-place bytes = go (headOf bytes)
         let b = body bytes in
         let s = sheetOf b in
         let wrong = not (sameList (drop (48 + 32 * s .unitCount) b) (inBytes (statementOf rules s))) in
-        sheet-place 64 b (bodyRules rules b) (month-place s ((wrong ⇒ BadArchive) ∷ []) (place-rule 160 wrong BadArchive [] (omega arith) (λ _. tt)))
+        both-place 160 (sheetRules 64 b) (bodyRules rules b) (sheet-place 64 b)
+        (both-place 160 (monthRules s) ((wrong ⇒ BadArchive) ∷ []) (month-place s) (place-rule 160 wrong BadArchive [] (omega arith) (λ _. tt)))
 
 pub write-place : (sheet list : List ℕ) → PlaceBelow 160 (writeAnswer sheet list)
 unfolding writeAnswer settledSheet

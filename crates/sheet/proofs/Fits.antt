@@ -7,6 +7,7 @@ use Prim.Native.Nat.{ℕ, zero, suc, _+_, _≤_, _<_}
 use native.Mathlib.Omega.{arith}
 use lib.Dec.{leb, eqb}
 use lib.ListN.{length, getD, take}
+use lib.Seq.{getD-take}
 use borrow.Author.Tests.{leb-true, leb-false, eqb-true, ne-eqb, not-false}
 use Rattle.sheet.specs.declared.ranges.Range.{Range}
 use Rattle.sheet.specs.declared.refusal.Outcome.the-variants.{Accepted}
@@ -17,20 +18,22 @@ use Rattle.sheet.specs.Inner.Fits.{InRange, Increasing, idOf, UnitFits, 
 use Rattle.sheet.proofs.Passed.{NoneHolds, none-holds, none-of-both, and-true, not-outside}
 use Rattle.sheet.proofs.Units.{units-count}
 
--- ---- a bound on the first n entries of a table
+-- ---- a bound on the entries of a table, of what stands behind its end too, and on its first n
 abbrev pub atMost : ℕ → List Range → Bool
 atMost b [] = true
 atMost b (r ∷ rs) = leb (r .high) b && atMost b rs
 
+pub entry-high : (table : List Range) (b k : ℕ) → atMost b table ≡ true → entry table k .high ≤ b
+entry-high [] b k e = omega arith
+entry-high (r ∷ rs) b zero e = leb-true (r .high) b (and-true (leb (r .high) b) _ e .0)
+entry-high (r ∷ rs) b (suc k) e = entry-high rs b k (and-true (leb (r .high) b) _ e .1)
+
 pub entry-at-most : (table : List Range) (n b k : ℕ) → atMost b (take n table) ≡ true → k < n → entry table k .high ≤ b
-entry-at-most table zero b k e h = absurd (omega arith)
-entry-at-most [] (suc n) b k e h = omega arith
-entry-at-most (r ∷ rs) (suc n) b zero e h = leb-true (r .high) b (and-true (leb (r .high) b) _ e .0)
-entry-at-most (r ∷ rs) (suc n) b (suc k) e h = entry-at-most rs n b k (and-true (leb (r .high) b) _ e .1) (omega arith)
+entry-at-most table n b k e h = subst (λ (r : Range). r .high ≤ b) (getD-take n table k (0 to 0) h) (entry-high (take n table) b k e)
 
 -- ---- 6 and 20: a row
 -- b is within its model's range, and 0 where the unit isn't read
-read-high : (t : Bool) (x : ℕ) (r : Range) → InRange x (if t then r else 0 to 0) → x ≤ r .high
+pub read-high : (t : Bool) (x : ℕ) (r : Range) → InRange x (if t then r else 0 to 0) → x ≤ r .high
 read-high true x r h = h .1
 read-high false x r h = omega arith
 
@@ -128,15 +131,15 @@ module _ (s : Sheet) (version : s .version ≡ 1) (t : NoneHolds (map headerRule
         unitCount = count .1;
         waterSource = source .1;
         basePercent = base;
-        basePercentHigh = omega (arith, base .1, entry-at-most basePercentRanges 6 60 (s .model) refl (omega arith));
+        basePercentHigh = omega (arith, base .1, entry-high basePercentRanges 60 (s .model) refl);
         commonHeatPercent = heat;
-        commonHeatPercentHigh = omega (arith, heat .1, entry-at-most commonHeatRanges 6 50 (s .model) refl (omega arith));
+        commonHeatPercentHigh = omega (arith, heat .1, entry-high commonHeatRanges 50 (s .model) refl);
         commonWaterPercent = water;
-        commonWaterPercentHigh = omega (arith, water .1, entry-at-most commonWaterRanges 4 50 (s .waterSource) refl (omega arith));
+        commonWaterPercentHigh = omega (arith, water .1, entry-high commonWaterRanges 50 (s .waterSource) refl);
         unmeteredFactor = factor;
-        unmeteredFactorHigh = omega (arith, factor .1, entry-at-most unmeteredFactorRanges 6 35 (s .model) refl (omega arith));
+        unmeteredFactorHigh = omega (arith, factor .1, entry-high unmeteredFactorRanges 35 (s .model) refl);
         lossFactor = loss;
-        lossFactorHigh = omega (arith, loss .1, entry-at-most lossFactorRanges 4 200 (s .waterSource) refl (omega arith));
+        lossFactorHigh = omega (arith, loss .1, entry-high lossFactorRanges 200 (s .waterSource) refl);
         sharedMeter = meter .1;
         price = price .1;
         firstWaterReading = first;

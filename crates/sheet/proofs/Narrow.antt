@@ -1,38 +1,30 @@
 -- What is allowed of a row's field lies within its fixed range, so one test passes both 6 and 20. Assumes nothing.
 use mathlib.Core.Path.{_≡_, refl}
-use mathlib.Core.Bool.{Bool, true, false}
-use mathlib.Core.List.{List, [], _∷_}
-use Prim.Native.Nat.{ℕ, zero, suc, _≤_}
+use mathlib.Core.Bool.{Bool, true}
+use mathlib.Core.List.{List}
+use Prim.Native.Nat.{ℕ, _≤_}
 use native.Mathlib.Omega.{arith}
-use lib.Dec.{leb, eqb}
-use borrow.Author.Tests.{leb-true}
+use lib.Dec.{eqb}
 use Rattle.sheet.specs.declared.ranges.Range.{Range}
 use Rattle.sheet.specs.Tests.{if_then_else_, Each}
 use Rattle.sheet.specs.Layout.{UnitRow, Sheet}
 use Rattle.sheet.specs.Check.{RowTest, _to_, _within_, passes, entry, rowTests, statusRanges, waterClassRanges, readingRanges, litresRanges, personsRanges}
 use Rattle.sheet.specs.Inner.FieldRanges.{valueOf, fixedRange, allowed}
-use Rattle.sheet.proofs.Passed.{and-true, in-range, of-range}
-use Rattle.sheet.proofs.Fits.{atMost}
+use Rattle.sheet.proofs.Passed.{in-range, of-range}
+use Rattle.sheet.proofs.Fits.{atMost, entry-high, read-high}
 
 abbrev pub Narrow : RowTest → Type 0
 Narrow t = passes (valueOf t within allowed t) ≡ true → passes (valueOf t within fixedRange t) ≡ true
 
--- every entry of a table, and what stands behind its end
-entry-high : (table : List Range) (b k : ℕ) → atMost b table ≡ true → entry table k .high ≤ b
-entry-high [] b k e = omega arith
-entry-high (r ∷ rs) b zero e = leb-true (r .high) b (and-true (leb (r .high) b) _ e .0)
-entry-high (r ∷ rs) b (suc k) e = entry-high rs b k (and-true (leb (r .high) b) _ e .1)
-
 module _ (x b : ℕ) where
-  below : (r : Range) → r .high ≤ b → passes (x within r) ≡ true → passes (x within 0 to b) ≡ true
-  below r h e = of-range x (0 to b) (omega arith, omega (arith, in-range x r e .1))
+  below : x ≤ b → passes (x within 0 to b) ≡ true
+  below h = of-range x (0 to b) (omega arith, h)
 
   in-table : (table : List Range) (k : ℕ) → atMost b table ≡ true → passes (x within entry table k) ≡ true → passes (x within 0 to b) ≡ true
-  in-table table k h = below (entry table k) (entry-high table b k h)
+  in-table table k h e = below (omega (arith, in-range x (entry table k) e .1, entry-high table b k h))
 
   if-read : (t : Bool) (r : Range) → r .high ≤ b → passes (x within (if t then r else 0 to 0)) ≡ true → passes (x within 0 to b) ≡ true
-  if-read true r h = below r h
-  if-read false r h = below (0 to 0) (omega arith)
+  if-read t r h e = below (omega (arith, read-high t x r (in-range x _ e)))
 
 pub narrow : (s : Sheet) (u : UnitRow) → Each Narrow (rowTests s u)
 unfolding rowTests

@@ -1,7 +1,7 @@
 -- What holds of each of the sheet's refusals holds of the first; the place of a refusal is below 160: 0, a row, or a byte of the header. Assumes nothing.
-use mathlib.Core.Path.{_≡_, refl, sym, subst}
+use mathlib.Core.Path.{_≡_, refl}
 use mathlib.Core.Bool.{Bool, true, false, not}
-use mathlib.Core.List.{List, [], _∷_, _++_, map, append-assoc}
+use mathlib.Core.List.{List, [], _∷_, _++_, map}
 use mathlib.Core.Logic.{inl, inr}
 use mathlib.Core.Option.{Option, none, some}
 use Prim.Native.Nat.{ℕ, _+_, _*_, _≤_, _<_}
@@ -11,12 +11,12 @@ use lib.Dec.{ltb, eqb}
 use Rattle.sheet.specs.Tests.{all}
 use lib.ListN.{length}
 use Rattle.sheet.specs.declared.refusal.Refusal.{Refusal}
-use Rattle.sheet.specs.declared.refusal.Refusal.the-variants.{WrongLength}
+use Rattle.sheet.specs.declared.refusal.Outcome.the-variants.{Accepted}
 use Rattle.sheet.specs.Refusals.{Rule, _⇒_, firstRefusal, placeOf}
 use Rattle.sheet.specs.Inner.Places.{IfRefused, PlaceBelow, UpTo}
 use Rattle.sheet.specs.Layout.{UnitRow, Sheet, sheetOf}
 use Rattle.sheet.specs.Check.{HeaderTest, RowTest, fixed, _allowing_, headerTests, headerRule, rowTests, fieldRules, rowRules, sheetRules, sameList, sheetMagic}
-use Rattle.sheet.proofs.Passed.{NoneHolds, and-true, not-outside}
+use Rattle.sheet.proofs.Passed.{none-holds, and-true, not-outside}
 use Rattle.sheet.proofs.Units.{units-count}
 
 module _ (P : Refusal → Type 0) where
@@ -26,8 +26,8 @@ module _ (P : Refusal → Type 0) where
   rule-first true r rules h f = h
   rule-first false r rules h f = f refl
 
-  -- more of them, whatever their conditions
-  abbrev EachRefusal : List Rule → Type 0
+  -- a list of them, whatever their conditions, and one list behind another
+  abbrev pub EachRefusal : List Rule → Type 0
   EachRefusal [] = Unit {0}
   EachRefusal ((t ⇒ r) ∷ rules) = P r × EachRefusal rules
 
@@ -35,11 +35,16 @@ module _ (P : Refusal → Type 0) where
   each-append [] ys h k = k
   each-append ((t ⇒ r) ∷ xs) ys h k = (h .0, each-append xs ys (h .1) k)
 
-  rules-first : (xs rules : List Rule) → EachRefusal xs → (NoneHolds xs → IfRefused P (firstRefusal rules)) → IfRefused P (firstRefusal (xs ++ rules))
+  pub each-first : (rules : List Rule) → EachRefusal rules → IfRefused P (firstRefusal rules)
   unfolding firstRefusal
-  rules-first [] rules h f = f tt
-  rules-first ((true ⇒ r) ∷ xs) rules h f = h .0
-  rules-first ((false ⇒ r) ∷ xs) rules h f = rules-first xs rules (h .1) (λ n. f (refl, n))
+  each-first [] h = tt
+  each-first ((t ⇒ r) ∷ rules) h = rule-first t r rules (h .0) (λ _. each-first rules (h .1))
+
+  pub both-first : (xs ys : List Rule) → IfRefused P (firstRefusal xs) → (firstRefusal xs ≡ Accepted → IfRefused P (firstRefusal ys)) → IfRefused P (firstRefusal (xs ++ ys))
+  unfolding firstRefusal
+  both-first [] ys h f = f refl
+  both-first ((true ⇒ r) ∷ xs) ys h f = h
+  both-first ((false ⇒ r) ∷ xs) ys h f = both-first xs ys h f
 
   module _ (own : (r : Refusal) → UpTo 7 r → placeOf r < 160 → P r) where
     -- 4: a byte below 160
@@ -61,24 +66,25 @@ module _ (P : Refusal → Type 0) where
     each-row s i before (u ∷ us) h =
         each-append (fieldRules i (rowTests s u)) _ (each-field i (rowTests s u) (omega arith)) (own _ (inl (omega arith)) (omega arith), each-row s (i + 1) (some (u .id)) us (omega arith))
 
-    -- 1 to 7 with 20, and what follows
-    pub sheet-first : (width : ℕ) (bytes : List ℕ) (rules : List Rule) → IfRefused P (firstRefusal rules) → IfRefused P (firstRefusal (sheetRules width bytes ++ rules))
+    -- 1 to 7 with 20
+    pub sheet-first : (width : ℕ) (bytes : List ℕ) → IfRefused P (firstRefusal (sheetRules width bytes))
     unfolding sheetRules headerTests all
-    sheet-first width bytes rules f =
+    sheet-first width bytes =
         let s = sheetOf bytes in
         let header = map headerRule (headerTests s) in
-        let wrongLength = not (eqb (length bytes) (48 + width * s .unitCount)) in
-        let rows = rowRules s 0 none (s .units) in
         rule-first (ltb (length bytes) 48) _ _ (own _ (inl (omega arith)) (omega arith))
         (λ _. rule-first (not (sameList (s .magic) sheetMagic)) _ _ (own _ (inl (omega arith)) (omega arith))
         (λ _. rule-first (not (eqb (s .version) 1)) _ _ (own _ (inl (omega arith)) (omega arith))
-        (λ _. subst (λ (rules : List Rule). IfRefused P (firstRefusal rules)) (sym (append-assoc header ((wrongLength ⇒ WrongLength) ∷ rows) rules))
-        (rules-first header ((wrongLength ⇒ WrongLength) ∷ (rows ++ rules)) (each-header (headerTests s) refl)
-        (λ e. rule-first wrongLength WrongLength (rows ++ rules) (own _ (inl (omega arith)) (omega arith))
-        (λ _. rules-first rows rules (each-row s 0 none (s .units) (omega (arith, units-count bytes, not-outside (s .unitCount) _ (e .1 .1 .0) .1))) (λ _. f)))))))
+        (λ _. both-first header _ (each-first header (each-header (headerTests s) refl))
+        (λ e. rule-first (not (eqb (length bytes) (48 + width * s .unitCount))) _ _ (own _ (inl (omega arith)) (omega arith))
+        (λ _. each-first (rowRules s 0 none (s .units)) (each-row s 0 none (s .units) (omega (arith, units-count bytes, not-outside (s .unitCount) _ (none-holds header e .1 .1 .0) .1))))))))
 
+-- ---- places
 pub place-rule : (k : ℕ) (t : Bool) (r : Refusal) (rules : List Rule) → placeOf r < k → (t ≡ false → PlaceBelow k (firstRefusal rules)) → PlaceBelow k (firstRefusal ((t ⇒ r) ∷ rules))
 place-rule k = rule-first (λ r. placeOf r < k)
 
-pub sheet-place : (width : ℕ) (bytes : List ℕ) (rules : List Rule) → PlaceBelow 160 (firstRefusal rules) → PlaceBelow 160 (firstRefusal (sheetRules width bytes ++ rules))
+pub both-place : (k : ℕ) (xs ys : List Rule) → PlaceBelow k (firstRefusal xs) → PlaceBelow k (firstRefusal ys) → PlaceBelow k (firstRefusal (xs ++ ys))
+both-place k xs ys h f = both-first (λ r. placeOf r < k) xs ys h (λ _. f)
+
+pub sheet-place : (width : ℕ) (bytes : List ℕ) → PlaceBelow 160 (firstRefusal (sheetRules width bytes))
 sheet-place = sheet-first (λ r. placeOf r < 160) (λ r n p. p)

@@ -17,10 +17,10 @@ use Rattle.sheet.specs.declared.refusal.Outcome.the-variants.{Accepted, Refused
 use Rattle.sheet.specs.Tests.{if_then_else_, Each}
 use Rattle.sheet.specs.Refusals.{firstRefusal, numberOf}
 use Rattle.sheet.specs.RuleSets.{newest}
-use Rattle.sheet.specs.Check.{_to_, _within_, passes}
+use Rattle.sheet.specs.Check.{_to_, _within_, passes, sheetRules}
 use Rattle.sheet.specs.Inner.Places.{IfRefused, UpTo}
 use Rattle.sheet.specs.Layout.{sheetOf}
-use Rattle.sheet.proofs.Places.{sheet-first}
+use Rattle.sheet.proofs.Places.{both-first, sheet-first}
 use Rattle.month.specs.Month.{Settled, monthRules, settleRules, monthOf, statementOf, settledSheet, unlessRefused}
 use Rattle.month.specs.Laws.{sumTo}
 use Rattle.month.proofs.Laws.{settled-laws}
@@ -89,10 +89,11 @@ other-than-19 k l r (inl h) e = let same = ap numberOf e in omega (arith, same)
 other-than-19 k l r (inr h) e = let same = ap numberOf e in omega (arith, same)
 
 settle-never : (sheet : List ℕ) → IfRefused (λ r. r ≢ BadYearSums) (firstRefusal (settleRules sheet))
-unfolding settleRules monthRules firstRefusal
+unfolding settleRules
 settle-never sheet =
-    sheet-first (λ r. r ≢ BadYearSums) (λ r h _. other-than-19 7 (omega arith) r h) 32 sheet (monthRules (sheetOf sheet))
-    (month-first (λ r. r ≢ BadYearSums) (λ r h _. other-than-19 12 (omega arith) r h) (sheetOf sheet) [] tt)
+    both-first (λ r. r ≢ BadYearSums) (sheetRules 32 sheet) (monthRules (sheetOf sheet))
+    (sheet-first (λ r. r ≢ BadYearSums) (λ r h _. other-than-19 7 (omega arith) r h) 32 sheet)
+    (λ _. month-first (λ r. r ≢ BadYearSums) (λ r h _. other-than-19 12 (omega arith) r h) (sheetOf sheet))
 
 not-refused : {r : Refusal} → r ≢ BadYearSums → refused r ≢ refused BadYearSums
 not-refused d e = d cc

@@ -1,7 +1,7 @@
 -- The place of every refusal of the book calls is below 160. Assumes nothing.
-use mathlib.Core.Path.{_≡_, refl, sym, subst}
+use mathlib.Core.Path.{_≡_, refl}
 use mathlib.Core.Bool.{Bool, not}
-use mathlib.Core.List.{List, [], _∷_, _++_, append-assoc}
+use mathlib.Core.List.{List, [], _∷_}
 use Prim.Native.Nat.{ℕ, _-_, _<_}
 use native.Mathlib.Omega.{arith}
 use lib.Dec.{ltb}
@@ -13,9 +13,9 @@ use Rattle.sheet.specs.Refusals.{Rule, _⇒_, firstRefusal, placeOf}
 use Rattle.sheet.specs.Inner.Places.{PlaceBelow}
 use Rattle.sheet.specs.Layout.{sheetOf}
 use Rattle.sheet.specs.Check.{sheetRules}
-use Rattle.sheet.proofs.Places.{place-rule, sheet-place}
-use Rattle.month.specs.Month.{monthRules, settleRules}
-use Rattle.month.proofs.Places.{month-place}
+use Rattle.sheet.proofs.Places.{place-rule, both-place, sheet-place}
+use Rattle.month.specs.Month.{settleRules}
+use Rattle.month.proofs.Places.{settle-place}
 use Rattle.yearbook.specs.Calls.{replyOf}
 use Rattle.year_sums.specs.YearSums.{wrongSums, badSums}
 use Rattle.yearbook.specs.LentBook.{Lent, unitCountIn, placeOfMonth, marked, wrongSize, badBook, otherBuilding, blockIn, blockOf, zeroBlock, sheetCallRules, openAnswer, postAnswer, replaceAnswer, withdrawAnswer, yearRules, yearOutcome}
@@ -32,19 +32,16 @@ module _ (t : Bool) (r : Refusal) (first : placeOf r < 160) where
 pub open-place : (l : Lent) (sheet : List ℕ) → PlaceBelow 160 (openAnswer l sheet)
 unfolding openAnswer
 open-place l sheet =
-    ahead (wrongSize (l .book)) BadYearBook (omega arith) _ (sheet-place 32 sheet ((wrongSums (l .sums) ⇒ BadYearSums) ∷ []) (last (wrongSums (l .sums)) BadYearSums (omega arith)))
+    ahead (wrongSize (l .book)) BadYearBook (omega arith) _
+    (both-place 160 (sheetRules 32 sheet) ((wrongSums (l .sums) ⇒ BadYearSums) ∷ []) (sheet-place 32 sheet) (last (wrongSums (l .sums)) BadYearSums (omega arith)))
 
 bring-place : (l : Lent) (sheet : List ℕ) (wrong : Bool) (old : List ℕ) → PlaceBelow 160 (firstRefusal (sheetCallRules l sheet wrong old))
-unfolding sheetCallRules settleRules
+unfolding sheetCallRules
 bring-place l sheet wrong old =
-    let s = sheetOf sheet in
-    let behind = (otherBuilding (l .book) s ⇒ OtherBuilding) ∷ (wrong ⇒ MonthState) ∷ (badSums (l .sums) old (blockOf sheet) ⇒ BadYearSums) ∷ [] in
     ahead (badBook (l .book)) BadYearBook (omega arith) _
-    (subst (λ (rules : List Rule). PlaceBelow 160 (firstRefusal rules)) (sym (append-assoc (sheetRules 32 sheet) (monthRules s) behind))
-    (sheet-place 32 sheet (monthRules s ++ behind)
-    (month-place s behind
-    (ahead (otherBuilding (l .book) s) OtherBuilding (omega arith) _
-    (ahead wrong MonthState (omega arith) _ (last (badSums (l .sums) old (blockOf sheet)) BadYearSums (omega arith)))))))
+    (both-place 160 (settleRules sheet) _ (settle-place sheet)
+    (ahead (otherBuilding (l .book) (sheetOf sheet)) OtherBuilding (omega arith) _
+    (ahead wrong MonthState (omega arith) _ (last (badSums (l .sums) old (blockOf sheet)) BadYearSums (omega arith)))))
 
 pub post-place : (l : Lent) (sheet : List ℕ) → PlaceBelow 160 (postAnswer l sheet)
 unfolding postAnswer
