@@ -254,6 +254,11 @@ casesByHand rules =
     ∷ answer rules (sheet 4 1 50 0 0 31 0 1000 10000 (first 1001) (unitBytes 11 1 0 1000 100 10 0 0 0 0 ∷ [])) gives refuses 8 0
     ∷ answer rules (sheet 4 0 50 0 0 31 0 1000 10000 (first 0) (unitBytes 11 1 0 1000 100 10 0 0 0 0 ∷ [])) gives refuses 9 0
     ∷ answer rules (sheet 3 0 30 0 0 31 0 1000 10000 (first 0) (unitBytes 11 1 0 1000 100 10 0 0 0 0 ∷ [])) gives refuses 10 0
+    -- The first of these with a fault of the sheet itself, which comes before them: f 36, KF 1,001, a reading of a unit without a device, the same id twice.
+    ∷ answer rules (sheet 4 1 50 0 0 36 0 1000 10000 (first 1001) (unitBytes 11 1 0 1000 100 10 0 0 0 0 ∷ [])) gives refuses 4 14
+    ∷ answer rules (sheet 4 1 50 0 0 31 0 1000 10000 (first 1001) (unitBytes 11 1 0 1001 100 10 0 0 0 0 ∷ [])) gives refuses 6 0
+    ∷ answer rules (sheet 4 1 50 0 0 31 0 1000 10000 (first 1001) (unitBytes 11 1 0 1000 100 10 0 5 0 0 ∷ [])) gives refuses 20 0
+    ∷ answer rules (sheet 4 1 50 0 0 31 0 1000 10000 (first 1001) (unitBytes 11 1 0 1000 100 10 0 0 0 0 ∷ unitBytes 11 1 0 1000 100 10 0 0 0 0 ∷ [])) gives refuses 7 1
     -- One unit of model 5, read, C 101, n1 + n2 = 0: 8, 9, 11 with H 1,001; 9, 11 with H 900.
     ∷ answer rules (sheet 5 1 0 0 0 30 0 1000 10000 (first 1001) (heated 11 0 1000 100 101 ∷ [])) gives refuses 8 0
     ∷ answer rules (sheet 5 1 0 0 0 30 0 1000 10000 (first 900) (heated 11 0 1000 100 101 ∷ [])) gives refuses 9 0
