@@ -39,7 +39,7 @@ sum-zeros (suc n) = omega (arith, sum-zeros n)
 
 -- ---- for every key
 module _ (key : Key) where
-  length-shares : (total : ℕ) (ws : List ℕ) → length (sharesBy key total ws) ≡ length ws
+  pub length-shares : (total : ℕ) (ws : List ℕ) → length (sharesBy key total ws) ≡ length ws
   unfolding sharesBy
   length-shares total ws = length-added (quotas total ws) (extras (leftover total ws) [] (map (key total (sum ws)) ws)) ∙ length-map ws (quota total (sum ws))
 

@@ -5,6 +5,7 @@ pub mod Takers
 pub mod Giving
 pub mod Leftover
 pub mod Laws
+pub mod Turns
 pub mod Halves
 pub mod Wide
 pub mod Steps

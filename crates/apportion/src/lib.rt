@@ -7,6 +7,7 @@ mod selection;
 
 pub use order::larger;
 pub use order::smaller;
+pub use quotas::sum_of;
 ghost use mathlib.Core.Path.{_≡_};
 ghost use Prim.Native.Nat.{_-_, _^_, _<_};
 ghost use lib.ListN.{length};

@@ -7,7 +7,7 @@ ghost use Rattle.apportion.specs.Inner.Selection.{RoundedDown};
 use super::order::larger;
 use super::quotient::mul_div;
 
-pub(crate) fn sum_of(ws: &[u64]) -> u64
+pub fn sum_of(ws: &[u64]) -> u64
     requires { ⌜ sum (now ws) < 2 ^ 62 ⌝ }
     ensures { λ r. ⌜ r ≡ sum (now (ws .entry)) ⌝ }
 {

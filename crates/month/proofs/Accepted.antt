@@ -27,7 +27,7 @@ use Rattle.month.specs.Month.{hotWaterWh, spaceHeatWh, zeroWaterDivisor,
 use Rattle.month.specs.Inner.Accepted.{CheckedSheet, AcceptedSheet}
 use Rattle.month.proofs.Lists.{decided, sum-append}
 
-and-false : (a b : Bool) → (a && b) ≡ false → a ≡ true → b ≡ false
+pub and-false : (a b : Bool) → (a && b) ≡ false → a ≡ true → b ≡ false
 and-false true b e h = e
 and-false false b e h = absurd (let z : _≡_ {A = ℕ} 0 1 = cc in omega arith)
 

@@ -16,10 +16,10 @@ use Rattle.sheet.specs.declared.rule_set.RuleSet.{RuleSet}
 use Rattle.sheet.specs.Layout.{UnitRow, Sheet}
 use Rattle.sheet.specs.Tests.{Each}
 use Rattle.month.specs.Weights.{unreadUnits, allMetered, unreadWeights, poolWeight, readWeights, waterWeight, commonWaterWeight}
-use Rattle.month.specs.Steps.{Method, sharesUnder, dividingBy, wholeWh, splitBy, inUnitOrder, unitByUnit, hotWater, spaceHeat, heatParts, poolShares, readShares, heat, commonHeat, waterParts, water, commonWater, energies}
+use Rattle.month.specs.Steps.{Method, sharesUnder, dividingBy, wholeWh, splitBy, inUnitOrder, unitByUnit, hotWater, spaceHeat, heatParts, poolShares, readShares, heat, commonHeat, waterParts, water, commonWater, energiesWith, energies}
 use Rattle.month.specs.Month.{hotWaterWh, spaceHeatWh, billCents, costs}
 use Rattle.month.specs.Inner.Accepted.{AcceptedSheet}
-use Rattle.month.specs.Laws.{_by_, unitsHeatDivisions, heatDivisions, divisions, Divisible, DoesAsShares, NoOtherDivisions}
+use Rattle.month.specs.Laws.{_by_, unitsHeatDivisions, heatDivisions, divisionsWith, Divisible, DoesAsShares, NoOtherDivisions}
 use Rattle.month.proofs.Lists.{decided, sum-two, each-append, each-parts}
 use Rattle.month.proofs.Accepted.{load-positive, area-positive, pool-positive, read-positive, water-positive, common-water-positive}
 
@@ -135,11 +135,11 @@ module _ (rules : RuleSet) (s : Sheet) (a : AcceptedSheet s) where
       ]
 
   -- NO DIVISION MEETS W = 0 WITH T > 0
-  pub all-divisible : Divisible (billCents s by energies wholeWh rules s) → Each Divisible (divisions rules s)
-  unfolding divisions
-  all-divisible bill =
+  pub all-divisible : (common bill : ℕ) → Divisible (bill by energiesWith wholeWh rules s common) → Each Divisible (divisionsWith rules s common bill)
+  unfolding divisionsWith
+  all-divisible common bill costs =
       each-append Divisible (heatDivisions rules s) _ heat-divisible
-      (positive (area-positive s a), (split-divisible rules (s .commonWaterPercent) (hotWaterWh s), (water-divisible, (common-water-divisible, (bill, tt)))))
+      (positive (area-positive s a), (split-divisible rules (s .commonWaterPercent) (hotWaterWh s), (water-divisible, (common-water-divisible, (costs, tt)))))
 
 -- ---- no others
 module _ (divide : Method) where
@@ -170,17 +170,30 @@ module _ (divide : Method) where
       | by-pool e f g ↦ let k = rw (e, f, g) at h in rw (e, f, g, same-heat-parts .0, k .1 .0, k .1 .1 .0) (same-order (s .units) (poolShares wholeWh rules s) (readShares wholeWh rules s))
     ]
 
+  module _ (rules : RuleSet) (s : Sheet) (common bill : ℕ) (h : Each (DoesAsShares rules divide) (divisionsWith rules s common bill)) where
+    pub same-common : heatParts (dividingBy divide) rules s .common ≡ heatParts wholeWh rules s .common
+    unfolding divisionsWith
+    same-common = same-heat-parts rules s (each-parts (DoesAsShares rules divide) (heatDivisions rules s) _ h .0) .1
+
+    pub same-with : (energiesWith (dividingBy divide) rules s common ≡ energiesWith wholeWh rules s common)
+        × (divide rules bill (energiesWith wholeWh rules s common) ≡ sharesUnder rules bill (energiesWith wholeWh rules s common))
+    unfolding divisionsWith commonHeat waterParts splitBy water commonWater hotWater hotWaterWh
+    same-with =
+        let p = each-parts (DoesAsShares rules divide) (heatDivisions rules s) _ h in
+        let more = p .1 in
+        let split = more .1 .0 in
+        let n = length (s .units) in
+        let e = dividingBy divide in
+        let a = same-heat rules s (p .0) in
+        let b : commonHeat e rules s common ≡ commonHeat wholeWh rules s common = more .0 in
+        let c : water e rules s ≡ water wholeWh rules s = ap (λ (xs : List ℕ). divide rules (getD xs 0 0) (map (waterWeight s) (s .units))) split ∙ more .1 .1 .0 in
+        let d : commonWater e rules s ≡ commonWater wholeWh rules s = ap (λ (xs : List ℕ). divide rules (getD xs 1 0) (map commonWaterWeight (s .units))) split ∙ more .1 .1 .1 .0 in
+        (same-by-unit n (heat e rules s) (commonHeat e rules s common) (water e rules s) (commonWater e rules s) ∙ (λ i. unitByUnit wholeWh n (a i) (b i) (c i) (d i)), more .1 .1 .1 .1 .0)
+
 pub no-other-divisions : NoOtherDivisions
-unfolding divisions energies commonHeat waterParts splitBy water commonWater hotWater hotWaterWh costs
+unfolding energies costs
 no-other-divisions rules s divide h =
-    let p = each-parts (DoesAsShares rules divide) (heatDivisions rules s) _ h in
-    let more = p .1 in
-    let split = more .1 .0 in
-    let n = length (s .units) in
-    let e = dividingBy divide in
-    let a = same-heat divide rules s (p .0) in
-    let b : commonHeat e rules s ≡ commonHeat wholeWh rules s = ap (λ (t : ℕ). divide rules t (map (λ u. u .heatedArea) (s .units))) (same-heat-parts divide rules s (p .0) .1) ∙ more .0 in
-    let c : water e rules s ≡ water wholeWh rules s = ap (λ (xs : List ℕ). divide rules (getD xs 0 0) (map (waterWeight s) (s .units))) split ∙ more .1 .1 .0 in
-    let d : commonWater e rules s ≡ commonWater wholeWh rules s = ap (λ (xs : List ℕ). divide rules (getD xs 1 0) (map commonWaterWeight (s .units))) split ∙ more .1 .1 .1 .0 in
-    let es : energies e rules s ≡ energies wholeWh rules s = same-by-unit divide n (heat e rules s) (commonHeat e rules s) (water e rules s) (commonWater e rules s) ∙ (λ i. unitByUnit wholeWh n (a i) (b i) (c i) (d i)) in
-    record { same-energies = es; same-costs = ap (divide rules (billCents s)) es ∙ more .1 .1 .1 .1 .0 }
+    let common = heatParts wholeWh rules s .common in
+    let same = same-with divide rules s common (billCents s) h in
+    let es : energies (dividingBy divide) rules s ≡ energies wholeWh rules s = ap (energiesWith (dividingBy divide) rules s) (same-common divide rules s common (billCents s) h) ∙ same .0 in
+    record { same-energies = es; same-costs = ap (divide rules (billCents s)) es ∙ same .1 }

@@ -15,7 +15,7 @@ use Rattle.sheet.specs.declared.rule_set.RuleSet.{RuleSet}
 use Rattle.sheet.specs.Layout.{UnitRow, Sheet, sheetOf}
 use Rattle.month.specs.Fraction.{Fraction, Near, _over_}
 use Rattle.month.specs.Weights.{unreadUnits, allMetered, meteredSum}
-use Rattle.month.specs.Steps.{wholeWh, unrounded, splitBy, spaceHeat, heatParts, poolShares, readShares, heat, commonHeat, waterParts, water, commonWater, energies}
+use Rattle.month.specs.Steps.{wholeWh, unrounded, splitBy, spaceHeat, heatParts, poolShares, readShares, heat, commonHeat, waterParts, water, commonWater, energiesWith, energies}
 use Rattle.month.specs.Month.{hotWaterWh, spaceHeatWh, billCents, costs, statementOf, Month, monthOf, settled, settleRules, settledSheet, unlessRefused}
 use Rattle.month.specs.Portions.{energyPortion, billPart}
 use Rattle.month.specs.Inner.Accepted.{AcceptedSheet}
@@ -43,7 +43,7 @@ module _ (rules : RuleSet) (s : Sheet) (a : AcceptedSheet s) where
   unfolding spaceHeat hotWaterWh
   near-space = near-less (near-whole (s .sharedMeter)) (near-water s) (a .water-fits)
 
-  near-heat-parts : Near (heatParts wholeWh rules s .ofUnits) (heatParts unrounded rules s .ofUnits) 2 × Near (heatParts wholeWh rules s .common) (heatParts unrounded rules s .common) 2
+  pub near-heat-parts : Near (heatParts wholeWh rules s .ofUnits) (heatParts unrounded rules s .ofUnits) 2 × Near (heatParts wholeWh rules s .common) (heatParts unrounded rules s .common) 2
   unfolding heatParts spaceHeatWh
   near-heat-parts = elim (decided (allMetered s)) [
     | inl e ↦
@@ -69,9 +69,9 @@ module _ (rules : RuleSet) (s : Sheet) (a : AcceptedSheet s) where
     | by-pool e f g ↦ rw (e, f, g) (in-order-near (s .units) (all-more (omega arith) near-pool) (near-read (above-two s a f g)))
   ]
 
-  near-common-heat : NearAll (commonHeat wholeWh rules s) (commonHeat unrounded rules s) 3
+  near-common-heat : {common k : ℕ} {f : Fraction} → Near common f k → NearAll (commonHeat wholeWh rules s common) (commonHeat unrounded rules s f) (k + 1)
   unfolding commonHeat
-  near-common-heat = near-divided (area-fair rules s a (common-heat rules s)) (near-heat-parts .1)
+  near-common-heat {common} near = near-divided (area-fair rules s a common) near
 
   near-water-parts : Near (waterParts wholeWh rules s .ofUnits) (waterParts unrounded rules s .ofUnits) 2 × Near (waterParts wholeWh rules s .common) (waterParts unrounded rules s .common) 2
   unfolding waterParts
@@ -85,10 +85,13 @@ module _ (rules : RuleSet) (s : Sheet) (a : AcceptedSheet s) where
   unfolding commonWater
   near-common-water = near-divided (common-water-fair rules s a) (near-water-parts .1)
 
-  -- EACH ENERGY IS WITHIN 4 Wh OF ITS UNROUNDED PORTION
+  -- EACH ENERGY IS WITHIN 4 Wh OF ITS UNROUNDED PORTION, if what step 5 divides is within 3
+  pub with-near : {common : ℕ} {f : Fraction} → Near common f 3 → NearAll (energiesWith wholeWh rules s common) (energiesWith unrounded rules s f) 4
+  with-near near = by-unit-near (length (s .units)) near-heat (near-common-heat near) (all-more (omega arith) near-units-water) (all-more (omega arith) near-common-water)
+
   pub energies-near : NearAll (energies wholeWh rules s) (energies unrounded rules s) 4
   unfolding energies
-  energies-near = by-unit-near (length (s .units)) near-heat (all-more (omega arith) near-common-heat) (all-more (omega arith) near-units-water) (all-more (omega arith) near-common-water)
+  energies-near = with-near (near-more (omega arith) (near-heat-parts .1))
 
   -- EACH CENT IS WITHIN 1 OF THE BILL'S PART
   pub costs-near : (u j : ℕ) → Near (getD (costs rules s) (4 * u + j) 0) (billPart rules s u j) 1
@@ -110,7 +113,7 @@ module _ (rules : RuleSet) (s : Sheet) (a : AcceptedSheet s) where
 
   -- EVERY NUMBER FITS 32 BITS, and all that specs/Laws.antt asks
   pub month-laws : MonthLaws rules s (monthOf rules s)
-  unfolding monthOf statementOf energyPortion
+  unfolding monthOf statementOf energies costs energyPortion
   month-laws =
       let n = length (s .units) in
       let es = energies wholeWh rules s in
@@ -133,7 +136,7 @@ module _ (rules : RuleSet) (s : Sheet) (a : AcceptedSheet s) where
             ∙ sumTo-cong n _ _ (λ u h. sumTo-cong 4 _ _ (λ j l. cost u j h l)) ∙ sum-by-fours n cs lc ∙ costs-fair rules s a .adds-up;
         energy-near = λ u j h l. rw (energy u j (omega arith) l) (energies-near .at (4 * u + j));
         cents-near = λ u j h l. rw (cost u j (omega arith) l) (costs-near u j);
-        divisible = all-divisible rules s a (bill-divisible rules s a);
+        divisible = all-divisible rules s a (common-heat rules s) (billCents s) (bill-divisible rules s a);
       }
 
 -- ---- any bytes

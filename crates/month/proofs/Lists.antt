@@ -12,7 +12,7 @@ use Rattle.sheet.specs.Tests.{Each}
 use Rattle.sheet.specs.Layout.{UnitRow}
 use Rattle.month.specs.Fraction.{Fraction, Near, _over_}
 use Rattle.month.specs.Weights.{those, isRead}
-use Rattle.month.specs.Steps.{wholeWh, unrounded, inUnitOrder, unitByUnit}
+use Rattle.month.specs.Steps.{Rounding, wholeWh, unrounded, inUnitOrder, unitByUnit}
 use Rattle.month.specs.Month.{fourAndFour}
 use Rattle.month.specs.Laws.{sumTo}
 use Rattle.month.proofs.Nearness.{NearAll, near-zero}
@@ -51,7 +51,7 @@ pub getD-tail : {A : Type 0} (xs : List A) (i : ℕ) (d : A) → getD (drop 1 xs
 getD-tail [] i d = refl
 getD-tail (x ∷ xs) i d = refl
 
-near-tail : {xs : List ℕ} {fs : List Fraction} {k : ℕ} → NearAll xs fs k → NearAll (drop 1 xs) (drop 1 fs) k
+pub near-tail : {xs : List ℕ} {fs : List Fraction} {k : ℕ} → NearAll xs fs k → NearAll (drop 1 xs) (drop 1 fs) k
 near-tail {xs} {fs} n = record { at = λ i. rw (getD-tail xs i 0, getD-tail fs i (0 over 1)) (n .at (suc i)) }
 
 pub near-cons : {x : ℕ} {f : Fraction} {xs : List ℕ} {fs : List Fraction} {k : ℕ} → Near x f k → NearAll xs fs k → NearAll (x ∷ xs) (f ∷ fs) k
@@ -92,10 +92,10 @@ in-order-near (u ∷ us) n m = elim (decided (isRead u)) [
 ]
 
 -- ---- four lists unit by unit
-pub by-unit-length : (n : ℕ) (a b c d : List ℕ) → length (unitByUnit wholeWh n a b c d) ≡ 4 * n
+pub by-unit-length : (e : Rounding) (n : ℕ) (a b c d : List (e .Energy)) → length (unitByUnit e n a b c d) ≡ 4 * n
 unfolding unitByUnit
-by-unit-length zero a b c d = refl
-by-unit-length (suc n) a b c d = omega (arith, by-unit-length n (drop 1 a) (drop 1 b) (drop 1 c) (drop 1 d))
+by-unit-length e zero a b c d = refl
+by-unit-length e (suc n) a b c d = omega (arith, by-unit-length e n (drop 1 a) (drop 1 b) (drop 1 c) (drop 1 d))
 
 pub by-unit-sum : (n : ℕ) (a b c d : List ℕ) → sum (unitByUnit wholeWh n a b c d) ≡ sum (take n a) + sum (take n b) + sum (take n c) + sum (take n d)
 unfolding unitByUnit

@@ -154,7 +154,7 @@ pub record NearAll (xs : List ℕ) (fs : List Fraction) (k : ℕ) : Type 0 where
 pub all-more : {xs : List ℕ} {fs : List Fraction} {k l : ℕ} → k ≤ l → NearAll xs fs k → NearAll xs fs l
 all-more h n = record { at = λ i. near-more h (n .at i) }
 
-getD-map-in : {A B : Type 0} (g : A → B) (xs : List A) (i : ℕ) (a : A) (b : B) → i < length xs → getD (map g xs) i b ≡ g (getD xs i a)
+pub getD-map-in : {A B : Type 0} (g : A → B) (xs : List A) (i : ℕ) (a : A) (b : B) → i < length xs → getD (map g xs) i b ≡ g (getD xs i a)
 getD-map-in g [] i a b h = absurd (omega arith)
 getD-map-in g (x ∷ xs) zero a b h = refl
 getD-map-in g (x ∷ xs) (suc i) a b h = getD-map-in g xs i a b (omega arith)

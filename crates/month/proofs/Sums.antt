@@ -12,7 +12,7 @@ use Rattle.apportion.specs.Fair.{Fair}
 use Rattle.sheet.specs.declared.rule_set.RuleSet.{RuleSet}
 use Rattle.sheet.specs.Layout.{UnitRow, Sheet}
 use Rattle.month.specs.Weights.{readUnits, unreadUnits, allMetered, meteredSum, unreadWeight, unreadWeights, poolWeight, readWeight, readWeights, waterWeight, commonWaterWeight}
-use Rattle.month.specs.Steps.{wholeWh, inUnitOrder, hotWater, spaceHeat, heatParts, poolShares, readShares, heat, commonHeat, waterParts, water, commonWater, energies}
+use Rattle.month.specs.Steps.{Rounding, wholeWh, inUnitOrder, hotWater, spaceHeat, heatParts, poolShares, readShares, heat, commonHeat, waterParts, water, commonWater, energiesWith, energies}
 use Rattle.month.specs.Month.{hotWaterWh, spaceHeatWh, billCents, costs}
 use Rattle.month.specs.Inner.Accepted.{AcceptedSheet}
 use Rattle.month.specs.Laws.{_by_, Divisible}
@@ -22,6 +22,10 @@ use Rattle.month.proofs.Divisions.{under-fair, by-meters, by-load, by-a
 -- as many shares as units
 as-many-units : (f : UnitRow → ℕ) (us : List UnitRow) {t : ℕ} {xs : List ℕ} → Fair t (map f us) xs → length xs ≡ length us
 as-many-units f us fair = fair .as-many ∙ length-map us f
+
+-- THE ENERGIES ARE 4n, whatever step 5 divides, in whole Wh and in fractions
+pub with-length : (e : Rounding) (rules : RuleSet) (s : Sheet) (common : e .Energy) → length (energiesWith e rules s common) ≡ 4 * length (s .units)
+with-length e rules s common = by-unit-length e (length (s .units)) (heat e rules s) (commonHeat e rules s common) (water e rules s) (commonWater e rules s)
 
 module _ (rules : RuleSet) (s : Sheet) (a : AcceptedSheet s) where
   -- ---- space heat
@@ -76,30 +80,35 @@ module _ (rules : RuleSet) (s : Sheet) (a : AcceptedSheet s) where
     | by-pool e f g ↦ rw (e, f, g) (in-order-length (s .units) (poolShares wholeWh rules s) (readShares wholeWh rules s))
   ]
 
-  -- THE ENERGIES ARE 4n, AND ADD TO M
+  -- THE ENERGIES ADD TO M, step 5's total in place of the common heat
+  module _ (common : ℕ) where
+    pub with-sum : sum (energiesWith wholeWh rules s common) + common-heat rules s ≡ s .sharedMeter + common
+    unfolding spaceHeat hotWaterWh commonHeat waterParts
+    with-sum =
+        let n = length (s .units) in
+        omega (
+          arith,
+          by-unit-sum n (heat wholeWh rules s) (commonHeat wholeWh rules s common) (water wholeWh rules s) (commonWater wholeWh rules s),
+          sum-whole n (heat wholeWh rules s) heat-length,
+          sum-whole n (commonHeat wholeWh rules s common) (as-many-units (λ u. u .heatedArea) (s .units) (area-fair rules s a common)),
+          sum-whole n (water wholeWh rules s) (as-many-units (waterWeight s) (s .units) (water-fair rules s a)),
+          sum-whole n (commonWater wholeWh rules s) (as-many-units commonWaterWeight (s .units) (common-water-fair rules s a)),
+          heat-sum,
+          heat-parts,
+          area-fair rules s a common .adds-up,
+          water-fair rules s a .adds-up,
+          common-water-fair rules s a .adds-up,
+          split-sum rules (s .commonWaterPercent) (hotWater wholeWh s),
+          a .water-fits,
+        )
+
   pub energies-length : length (energies wholeWh rules s) ≡ 4 * length (s .units)
   unfolding energies
-  energies-length = by-unit-length (length (s .units)) (heat wholeWh rules s) (commonHeat wholeWh rules s) (water wholeWh rules s) (commonWater wholeWh rules s)
+  energies-length = with-length wholeWh rules s (common-heat rules s)
 
   pub energies-sum : sum (energies wholeWh rules s) ≡ s .sharedMeter
-  unfolding energies spaceHeat hotWaterWh commonHeat waterParts
-  energies-sum =
-      let n = length (s .units) in
-      omega (
-        arith,
-        by-unit-sum n (heat wholeWh rules s) (commonHeat wholeWh rules s) (water wholeWh rules s) (commonWater wholeWh rules s),
-        sum-whole n (heat wholeWh rules s) heat-length,
-        sum-whole n (commonHeat wholeWh rules s) (as-many-units (λ u. u .heatedArea) (s .units) (area-fair rules s a (common-heat rules s))),
-        sum-whole n (water wholeWh rules s) (as-many-units (waterWeight s) (s .units) (water-fair rules s a)),
-        sum-whole n (commonWater wholeWh rules s) (as-many-units commonWaterWeight (s .units) (common-water-fair rules s a)),
-        heat-sum,
-        heat-parts,
-        area-fair rules s a (common-heat rules s) .adds-up,
-        water-fair rules s a .adds-up,
-        common-water-fair rules s a .adds-up,
-        split-sum rules (s .commonWaterPercent) (hotWater wholeWh s),
-        a .water-fits,
-      )
+  unfolding energies
+  energies-sum = omega (arith, with-sum (common-heat rules s))
 
   -- ---- step 7: with M = 0 the bill is 0
   pub bill-divisible : Divisible (billCents s by energies wholeWh rules s)

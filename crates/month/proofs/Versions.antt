@@ -8,7 +8,7 @@ use Rattle.sheet.specs.declared.rule_set.RuleSet.the-variants.{Archive1, Archiv
 use Rattle.sheet.specs.Layout.{UnitRow, Sheet}
 use Rattle.month.specs.Weights.{readUnits, readingSum, readWeight, readWeights}
 use Rattle.month.specs.Steps.{wholeWh, splitBy, heatParts, poolShares, readShares, heat, commonHeat, waterParts, water, commonWater, energies}
-use Rattle.month.specs.Month.{costs, statementOf, monthOf}
+use Rattle.month.specs.Month.{statementOf, monthOf}
 use Rattle.month.specs.Laws.{AlikeButForRisers}
 use Rattle.month.proofs.Lists.{decided}
 
@@ -33,7 +33,7 @@ module _ (s : Sheet) (h : s .model ≡ 4 → readingSum s ≡ 0) where
   same-energies = rw same-read
 
   same-statement : statementOf Archive1 s ≡ statementOf Archive2 s
-  unfolding statementOf costs
+  unfolding statementOf energies
   same-statement = rw same-energies
 
 -- NO MONTH MOVES BUT THOSE OF MODEL 4 WITH B > 0

@@ -15,7 +15,7 @@ use Rattle.sheet.specs.declared.rule_set.RuleSet.the-variants.{Archive1, Archiv
 use Rattle.sheet.specs.Layout.{Sheet, sheetOf}
 use Rattle.month.specs.Fraction.{Fraction, Near}
 use Rattle.month.specs.Weights.{unreadUnits, allMetered, meteredSum, unreadWeights, poolWeight, readingSum, readWeights, waterWeight, commonWaterWeight}
-use Rattle.month.specs.Steps.{Method, sharesUnder, dividingBy, wholeWh, unrounded, item, hotWater, spaceHeat, heatParts, poolShares, waterParts, energies}
+use Rattle.month.specs.Steps.{Method, sharesUnder, dividingBy, wholeWh, unrounded, item, hotWater, spaceHeat, heatParts, poolShares, waterParts, energiesWith, energies}
 use Rattle.month.specs.Month.{hotWaterWh, spaceHeatWh, billCents, costs, Month, monthOf, settled, settledSheet}
 use Rattle.month.specs.Portions.{energyPortion, billPart}
 
@@ -43,15 +43,19 @@ heatDivisions rules s =
     if allMetered s then []
     else spaceHeatWh s by ((100 - s .commonHeatPercent) ∷ s .commonHeatPercent ∷ []) ∷ unitsHeatDivisions rules s
 
-unfoldable pub divisions : RuleSet → Sheet → List Division
-divisions rules s =
+-- where step 5 divides `common` and step 7 `bill`
+unfoldable pub divisionsWith : RuleSet → Sheet → (common bill : ℕ) → List Division
+divisionsWith rules s common bill =
     heatDivisions rules s
-    ++ heatParts wholeWh rules s .common by map (λ u. u .heatedArea) (s .units)  -- 5
+    ++ common by map (λ u. u .heatedArea) (s .units)  -- 5
     ∷ hotWaterWh s by ((100 - s .commonWaterPercent) ∷ s .commonWaterPercent ∷ [])  -- 6
     ∷ waterParts wholeWh rules s .ofUnits by map (waterWeight s) (s .units)
     ∷ waterParts wholeWh rules s .common by map commonWaterWeight (s .units)
-    ∷ billCents s by energies wholeWh rules s  -- 7
+    ∷ bill by energiesWith wholeWh rules s common  -- 7
     ∷ []
+
+abbrev pub divisions : RuleSet → Sheet → List Division
+divisions rules s = divisionsWith rules s (heatParts wholeWh rules s .common) (billCents s)
 
 -- not W = 0 with T > 0
 abbrev pub Divisible : Division → Type 0

@@ -15,7 +15,7 @@ use Rattle.sheet.specs.declared.rule_set.RuleSet.{RuleSet}
 use Rattle.sheet.specs.Layout.{Sheet, sheetOf}
 use Rattle.sheet.specs.Check.{sheetRules}
 use Rattle.month.specs.Weights.{sumOf, readUnits, allMetered, meteredSum, hasPool, totalArea, unreadWeights, readSurface, unitsOfClass, litresOfClass1, personsOfClass2, commonWaterWeight}
-use Rattle.month.specs.Steps.{sharesUnder, wholeWh, hotWater, spaceHeat, energies}
+use Rattle.month.specs.Steps.{sharesUnder, wholeWh, hotWater, spaceHeat, heatParts, energiesWith, energies}
 
 -- ---- 8 to 12
 -- H and EG in whole Wh
@@ -54,9 +54,13 @@ monthRules s =
     ∷ []
 
 -- ---- step 7
--- the bill in cents: M × price / 1,000,000, half up
+-- a bill in cents: reading × price / 1,000,000, half up
+abbrev pub centsFor : (reading price : ℕ) → ℕ
+centsFor reading price = (reading * price + 500000) / 1000000
+
+-- the month's: of M
 unfoldable pub billCents : Sheet → ℕ
-billCents s = (s .sharedMeter * s .price + 500000) / 1000000
+billCents s = centsFor (s .sharedMeter) (s .price)
 
 -- the bill divided over the 4n energies as weights
 unfoldable pub costs : RuleSet → Sheet → List ℕ
@@ -67,8 +71,14 @@ unfoldable pub fourAndFour : ℕ → List ℕ → List ℕ → List ℕ
 fourAndFour zero es cs = []
 fourAndFour (suc n) es cs = take 4 es ++ (take 4 cs ++ fourAndFour n (drop 4 es) (drop 4 cs))
 
+-- where step 5 divides `common` and step 7 `bill`
+abbrev pub statementWith : RuleSet → Sheet → (common bill : ℕ) → List ℕ
+statementWith rules s common bill =
+    let es = energiesWith wholeWh rules s common in
+    fourAndFour (length (s .units)) es (sharesUnder rules bill es)
+
 unfoldable pub statementOf : RuleSet → Sheet → List ℕ
-statementOf rules s = fourAndFour (length (s .units)) (energies wholeWh rules s) (costs rules s)
+statementOf rules s = statementWith rules s (heatParts wholeWh rules s .common) (billCents s)
 
 -- ---- the answer for any bytes
 pub record Month : Type 0 where

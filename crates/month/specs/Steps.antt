@@ -7,7 +7,7 @@ use Rattle.apportion.specs.Shares.{sum, shares}
 use Rattle.sheet.specs.Tests.{if_then_else_}
 use Rattle.sheet.specs.declared.rule_set.RuleSet.{RuleSet}
 use Rattle.sheet.specs.Layout.{UnitRow, Sheet, waterReading}
-use Rattle.month.specs.Fraction.{Fraction, _over_, _-ᶠ_, portions}
+use Rattle.month.specs.Fraction.{Fraction, _over_, _+ᶠ_, _-ᶠ_, portions}
 use Rattle.month.specs.Weights.{isRead, unreadUnits, allMetered, meteredSum, unreadWeights, poolWeight, readWeights, waterWeight, commonWaterWeight}
 
 -- What the steps do with an energy.
@@ -15,6 +15,7 @@ pub record Rounding : Type 1 where
   pub Energy : Type 0
   pub wh : ℕ → Energy  -- an amount of Wh
   pub quotient : ℕ → ℕ → Energy  -- upper / lower
+  pub more : Energy → Energy → Energy  -- a sum
   pub less : Energy → Energy → Energy  -- a difference
   pub divided : RuleSet → Energy → List ℕ → List Energy  -- divided by weights, by the rules
 
@@ -28,14 +29,14 @@ sharesUnder rules = shares
 
 -- The statement's: a quotient is rounded up (own), a division goes by the largest remainders.
 abbrev pub dividingBy : Method → Rounding
-dividingBy divide = record { Energy = ℕ; wh = λ n. n; quotient = λ a b. (a + (b - 1)) / b; less = _-_; divided = divide }
+dividingBy divide = record { Energy = ℕ; wh = λ n. n; quotient = λ a b. (a + (b - 1)) / b; more = _+_; less = _-_; divided = divide }
 
 abbrev pub wholeWh : Rounding
 wholeWh = dividingBy sharesUnder
 
 -- The unrounded portions': a quotient isn't rounded, and each item of a division gets T × w / W, or 0 when W = 0.
 abbrev pub unrounded : Rounding
-unrounded = record { Energy = Fraction; wh = λ n. n over 1; quotient = _over_; less = _-ᶠ_; divided = λ rules. portions }
+unrounded = record { Energy = Fraction; wh = λ n. n over 1; quotient = _over_; more = _+ᶠ_; less = _-ᶠ_; divided = λ rules. portions }
 
 module _ (e : Rounding) where
   open Rounding e using (Energy, wh, quotient, less, divided)
@@ -105,8 +106,8 @@ module _ (e : Rounding) where
         else inUnitOrder (s .units) poolShares readShares
 
     -- Step 5 (article 11). Common heat by p over all units.
-    unfoldable pub commonHeat : List Energy
-    commonHeat = divided rules (heatParts .common) (map (λ u. u .heatedArea) (s .units))
+    unfoldable pub commonHeat : Energy → List Energy
+    commonHeat total = divided rules total (map (λ u. u .heatedArea) (s .units))
 
     -- Step 6 (article 6). H by (100 − y, y) into units' and common water.
     unfoldable pub waterParts : Parts
@@ -120,6 +121,10 @@ module _ (e : Rounding) where
     unfoldable pub commonWater : List Energy
     commonWater = divided rules (waterParts .common) (map commonWaterWeight (s .units))
 
-    -- The 4n energies, unit by unit: heat, common heat, water, common water.
+    -- The 4n energies, unit by unit: heat, common heat, water, common water, where step 5 divides `total`.
+    abbrev pub energiesWith : Energy → List Energy
+    energiesWith total = unitByUnit (length (s .units)) heat (commonHeat total) water commonWater
+
+    -- Those of a month by itself: step 5 divides the common heat of step 2.
     unfoldable pub energies : List Energy
-    energies = unitByUnit (length (s .units)) heat commonHeat water commonWater
+    energies = energiesWith (heatParts .common)

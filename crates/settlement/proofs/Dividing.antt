@@ -15,8 +15,8 @@ use Rattle.month.specs.Steps.{sharesUnder, wholeWh, heat, commonHeat, waterPart
 use Rattle.month.specs.Inner.Accepted.{CheckedSheet}
 use Rattle.month.proofs.Accepted.{load-positive, area-positive}
 use Rattle.month.proofs.Bounds.{those-fewer, sum-bounds, weight-bounds}
-use Rattle.month.proofs.Divisions.{units-heat, common-heat, water-divisible, common-water-divisible}
-use Rattle.month.proofs.DivisionBounds.{units-heat-le, common-heat-le, units-water-le, common-water-le}
+use Rattle.month.proofs.Divisions.{units-heat, water-divisible, common-water-divisible}
+use Rattle.month.proofs.DivisionBounds.{units-heat-le, units-water-le, common-water-le}
 use Rattle.weights.specs.Inner.By.{takesPart, weightOf, weightsBy}
 use Rattle.weights.specs.Inner.Ready.{Accepts}
 use Rattle.weights.specs.declared.gather.By.{By}
@@ -61,14 +61,11 @@ module _ {bytes : List ℕ} {b : Basis} (a : Accepts bytes b) where
   pub load-heat : s .model ≡ 1 → Divides (units-heat rules s) (weightsBy rules Load s)
   load-heat m = divides Load refl (units-heat rules s) (units-heat-le rules s (a .accepted)) (λ z. absurd (omega (arith, load-positive s (a .accepted) m)))
 
-  by-area : (total : ℕ) → total ≤ 4000000000 → Divides total (weightsBy rules Area s)
+  pub by-area : (total : ℕ) → total ≤ 4000000000 → Divides total (weightsBy rules Area s)
   by-area total h = divides Area refl total h (λ z. absurd (omega (arith, area-positive s (a .accepted))))
 
   pub area-heat : Divides (units-heat rules s) (weightsBy rules Area s)
   area-heat = by-area (units-heat rules s) (units-heat-le rules s (a .accepted))
-
-  pub area-common-heat : Divides (common-heat rules s) (weightsBy rules Area s)
-  area-common-heat = by-area (common-heat rules s) (common-heat-le rules s (a .accepted))
 
   pub weighed-water : Divides (waterParts wholeWh rules s .ofUnits) (weightsBy rules Water s)
   weighed-water = divides Water refl (waterParts wholeWh rules s .ofUnits) (units-water-le rules s (a .accepted)) (water-divisible rules s (a .accepted))
@@ -99,7 +96,7 @@ module _ {bytes : List ℕ} {b : Basis} (a : Accepts bytes b) where
     unfolding heat allMetered
     area-is m e g = rw (ne-eqb (s .model) 5 (λ z. omega arith), ne-eqb (s .model) 1 (λ z. omega arith), eq-eqb (s .model) 2 m) (over-units Area refl e g)
 
-    pub common-heat-is : total ≡ common-heat rules s → Shared rules total (weightsBy rules Area s) out → take (b .units) out ≡ commonHeat wholeWh rules s
+    pub common-heat-is : {whole : ℕ} → total ≡ whole → Shared rules total (weightsBy rules Area s) out → take (b .units) out ≡ commonHeat wholeWh rules s whole
     unfolding commonHeat
     common-heat-is e g = over-units Area refl e g
 

@@ -5,4 +5,5 @@ pub mod Pool
 pub mod Writing
 pub mod Parts
 pub mod Answers
+pub mod Charging
 pub mod Places

@@ -7,17 +7,14 @@ use native.Mathlib.Omega.{arith}
 use native.Mathlib.Nat.{add-zero}
 use borrow.Author.Tests.{ltb-true, ltb-false, eqb-true, eqb-false}
 use lib.Dec.{ltb, eqb}
-use lib.ListN.{length, getD, take, drop, set, length-set}
-use lib.Seq.{getD-set-same, getD-set-other, ext-getD, getD-take}
-use Rattle.apportion.specs.Shares.{shares}
+use lib.ListN.{length, getD, take, drop, set, length-set, length-append, length-drop, List·getD-append}
+use lib.Seq.{getD-set-same, getD-set-other, ext-getD, getD-take, getD-drop, getD-append-add, length-take-le}
 use Rattle.sheet.specs.declared.rule_set.RuleSet.{RuleSet}
-use Rattle.sheet.specs.Layout.{Sheet, sheetOf}
-use Rattle.month.specs.Steps.{wholeWh, unitByUnit, heat, commonHeat, water, commonWater, energies}
-use Rattle.month.specs.Month.{billCents, costs, statementOf}
-use Rattle.month.proofs.Lists.{decided, getD-tail, rows-length, row-energy, row-cost}
-use Rattle.month.proofs.Sums.{energies-length, costs-fair}
-use Rattle.weights.specs.declared.basis.Basis.{Basis}
-use Rattle.settlement.specs.Inner.Numbers.{Put, energyPlace, costPlace, EnergiesWritten}
+use Rattle.sheet.specs.Layout.{Sheet}
+use Rattle.month.specs.Steps.{wholeWh, unitByUnit, heat, commonHeat, water, commonWater, energiesWith}
+use Rattle.month.specs.Month.{fourAndFour}
+use Rattle.month.proofs.Lists.{decided, getD-tail, by-unit-length, rows-length, row-energy, row-cost}
+use Rattle.settlement.specs.Inner.Numbers.{Put, energyPlace, costPlace, energiesIn}
 
 -- ---- one number more
 pub put-none : (at number : ℕ → ℕ) (list : List ℕ) → Put at 0 number list list
@@ -76,63 +73,82 @@ by-unit-take (suc n) a b c d =
     rw (first a, first b, first c, first d, tail-take n a, tail-take n b, tail-take n c, tail-take n d)
     (ap (λ (r : List ℕ). getD a 0 0 ∷ getD b 0 0 ∷ getD c 0 0 ∷ getD d 0 0 ∷ r) (by-unit-take n (drop 1 a) (drop 1 b) (drop 1 c) (drop 1 d)))
 
-pub energies-by-unit : (rules : RuleSet) (s : Sheet) {n : ℕ} (a b c d : List ℕ) → n ≡ length (s .units)
-    → take n a ≡ heat wholeWh rules s → take n b ≡ commonHeat wholeWh rules s → take n c ≡ water wholeWh rules s → take n d ≡ commonWater wholeWh rules s
-    → unitByUnit wholeWh n a b c d ≡ energies wholeWh rules s
-unfolding energies
-energies-by-unit rules s {n} a b c d count ea eb ec ed = by-unit-take n a b c d ∙ rw (ea, eb, ec, ed, count)
+pub energies-by-unit : (rules : RuleSet) (s : Sheet) (common : ℕ) {n : ℕ} (a b c d : List ℕ) → n ≡ length (s .units)
+    → take n a ≡ heat wholeWh rules s → take n b ≡ commonHeat wholeWh rules s common → take n c ≡ water wholeWh rules s → take n d ≡ commonWater wholeWh rules s
+    → unitByUnit wholeWh n a b c d ≡ energiesWith wholeWh rules s common
+energies-by-unit rules s common {n} a b c d count ea eb ec ed = by-unit-take n a b c d ∙ rw (ea, eb, ec, ed, count)
 
--- ---- a statement with its energies
-module _ {bytes : List ℕ} {b : Basis} {out : List ℕ} (w : EnergiesWritten bytes b out) where
-  abbrev s : Sheet
-  s = sheetOf bytes
+-- ---- the energies in a statement
+pub energies-in-length : (n : ℕ) (out : List ℕ) → length out ≡ 8 * n → length (energiesIn n out) ≡ 4 * n
+unfolding energiesIn
+energies-in-length zero out h = refl
+energies-in-length (suc n) out h = omega (
+  arith,
+  length-append (take 4 out) (energiesIn n (drop 8 out)),
+  length-take-le 4 out (omega arith),
+  energies-in-length n (drop 8 out) (omega (arith, length-drop 8 out)),
+)
 
-  abbrev rules : RuleSet
-  rules = b .rules
+-- energy j of unit i
+energy-in : (n i j : ℕ) (out : List ℕ) → length out ≡ 8 * n → i < n → j < 4 → getD (energiesIn n out) (4 * i + j) 0 ≡ getD out (8 * i + j) 0
+unfolding energiesIn
+energy-in zero i j out h l few = absurd (omega arith)
+energy-in (suc n) zero j out h l few =
+    let e : 4 * 0 + j ≡ j = omega arith in
+    rw e (List·getD-append (take 4 out) (energiesIn n (drop 8 out)) 0 j (omega (arith, length-take-le 4 out (omega arith))) ∙ getD-take 4 out j 0 few)
+energy-in (suc n) (suc i) j out h l few =
+    let e : 4 * suc i + j ≡ length (take 4 out) + (4 * i + j) = omega (arith, length-take-le 4 out (omega arith)) in
+    let f : 8 * suc i + j ≡ 8 + (8 * i + j) = omega arith in
+    rw (e, f) (
+    getD-append-add (take 4 out) (energiesIn n (drop 8 out)) (4 * i + j) 0
+    ∙ energy-in n i j (drop 8 out) (omega (arith, length-drop 8 out)) (omega arith) few
+    ∙ getD-drop 8 out (8 * i + j) 0
+    )
 
-  many : b .units ≡ length (s .units)
-  many = w .accepts .count ∙ sym (w .accepts .accepted .checked-sheet .unit-count)
+module _ (n : ℕ) (out : List ℕ) (room : length out ≡ 8 * n) where
+  energy-at : (k : ℕ) → k < 4 * n → getD (energiesIn n out) k 0 ≡ getD out (energyPlace k) 0
+  energy-at k h =
+      let e : 4 * (k / 4) + k % 4 ≡ k = omega arith in
+      ap (λ (x : ℕ). getD (energiesIn n out) x 0) (sym e) ∙ energy-in n (k / 4) (k % 4) out room (omega arith) (omega arith)
 
-  energy-count : length (energies wholeWh rules s) ≡ 4 * length (s .units)
-  energy-count = energies-length rules s (w .accepts .accepted)
+  -- written, number by number
+  energies-are : (es : List ℕ) → length es ≡ 4 * n → ((k : ℕ) → k < 4 * n → getD out (energyPlace k) 0 ≡ getD es k 0) → energiesIn n out ≡ es
+  energies-are es l at = ext-getD 0 (energiesIn n out) es (energies-in-length n out room ∙ sym l) (λ k h.
+      let less : k < 4 * n = omega (arith, energies-in-length n out room) in energy-at k less ∙ at k less)
 
-  cost-count : length (costs rules s) ≡ 4 * length (s .units)
-  cost-count = costs-fair rules s (w .accepts .accepted) .as-many ∙ energy-count
+  pub energies-put : (before a b c d : List ℕ) → Put energyPlace (4 * n) (λ k. getD (unitByUnit wholeWh n a b c d) k 0) before out → energiesIn n out ≡ unitByUnit wholeWh n a b c d
+  energies-put before a b c d p = energies-are (unitByUnit wholeWh n a b c d) (by-unit-length wholeWh n a b c d) (p .put)
 
-  pub energies-are : (before ws : List ℕ) → length ws ≡ 4 * b .units → Put (λ k. k) (4 * b .units) (λ k. getD out (energyPlace k) 0) before ws → ws ≡ energies wholeWh rules s
-  energies-are before ws l p = ext-getD 0 ws (energies wholeWh rules s) (omega (arith, energy-count, many)) (λ k h. p .put k (omega arith) ∙ w .energy k (omega arith))
+  -- read into a list of 4n numbers
+  pub energies-read : (before ws : List ℕ) → length ws ≡ 4 * n → Put (λ k. k) (4 * n) (λ k. getD out (energyPlace k) 0) before ws → ws ≡ energiesIn n out
+  energies-read before ws l p = sym (energies-are ws l (λ k h. sym (p .put k h)))
 
-  pub costs-are : {ws cents : List ℕ} {bill : ℕ} → ws ≡ energies wholeWh rules s → bill ≡ billCents s → cents ≡ shares bill ws → cents ≡ costs rules s
-  unfolding costs
-  costs-are e f g = g ∙ rw (e, f)
-
-  -- and its cents: place p holds number p % 8 of unit p / 8
-  module _ (cents after : List ℕ) (c : cents ≡ costs rules s) (l : length after ≡ 8 * b .units) (put : Put costPlace (4 * b .units) (λ k. getD cents k 0) out after) where
-    pub statement-is : after ≡ statementOf rules s
-    unfolding statementOf
-    statement-is = ext-getD 0 after (statementOf rules s) (omega (arith, rows-length (length (s .units)) (energies wholeWh rules s) (costs rules s) energy-count cost-count, many)) (λ p h.
+  -- and the cents beside them: place p holds number p % 8 of unit p / 8
+  module _ (cents after : List ℕ) (many : length cents ≡ 4 * n) (l : length after ≡ 8 * n) (put : Put costPlace (4 * n) (λ k. getD cents k 0) out after) where
+    pub statement-is : after ≡ fourAndFour n (energiesIn n out) cents
+    statement-is = ext-getD 0 after (fourAndFour n (energiesIn n out) cents) (omega (arith, rows-length n (energiesIn n out) cents count many)) (λ p h.
         let i = p / 8 in
         let j = p % 8 in
-        let inside : i < length (s .units) = omega (arith, many) in
+        let inside : i < n = omega arith in
         elim (decided (ltb j 4)) [
           | inl y ↦
               let few = ltb-true j 4 y in
-              let k = 4 * i + j in
-              let at : energyPlace k ≡ p = omega arith in
               let row : 8 * i + j ≡ p = omega arith in
               put .kept p (λ x less z. omega arith)
-              ∙ ap (λ (x : ℕ). getD out x 0) (sym at)
-              ∙ w .energy k (omega (arith, many))
-              ∙ sym (row-energy (length (s .units)) (energies wholeWh rules s) (costs rules s) i j energy-count cost-count inside few)
-              ∙ ap (λ (x : ℕ). getD (statementOf rules s) x 0) row
+              ∙ ap (λ (x : ℕ). getD out x 0) (sym row)
+              ∙ sym (energy-in n i j out room inside few)
+              ∙ sym (row-energy n (energiesIn n out) cents i j count many inside few)
+              ∙ ap (λ (x : ℕ). getD (fourAndFour n (energiesIn n out) cents) x 0) row
           | inr y ↦
               let many-more = ltb-false j 4 y in
               let k = 4 * i + (j - 4) in
               let at : costPlace k ≡ p = omega arith in
               let row : 8 * i + (4 + (j - 4)) ≡ p = omega arith in
               ap (λ (x : ℕ). getD after x 0) (sym at)
-              ∙ put .put k (omega (arith, many))
-              ∙ ap (λ (xs : List ℕ). getD xs k 0) c
-              ∙ sym (row-cost (length (s .units)) (energies wholeWh rules s) (costs rules s) i (j - 4) energy-count cost-count inside (omega arith))
-              ∙ ap (λ (x : ℕ). getD (statementOf rules s) x 0) row
+              ∙ put .put k (omega arith)
+              ∙ sym (row-cost n (energiesIn n out) cents i (j - 4) count many inside (omega arith))
+              ∙ ap (λ (x : ℕ). getD (fourAndFour n (energiesIn n out) cents) x 0) row
         ])
+      where
+        count : length (energiesIn n out) ≡ 4 * n
+        count = energies-in-length n out room

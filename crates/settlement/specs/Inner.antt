@@ -2,3 +2,5 @@
 pub mod Numbers
 pub mod Division
 pub mod Heat
+pub mod Measured
+pub mod Building

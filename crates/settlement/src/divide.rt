@@ -13,7 +13,7 @@ use weights::gather::By;
 use weights::gather::gather;
 
 // The total divided by the first m weights.
-pub(crate) fn share(total: u64, m: usize, weights: &[u64], out: &mut [u32])
+pub fn share(total: u64, m: usize, weights: &[u64], out: &mut [u32])
     requires { ⌜ (m ≤ 160) × (m ≤ length (now weights)) × (m ≤ length (now out)) ⌝ }
     requires { ⌜ Divides total (take m (now weights)) × (sum (take m (now weights)) < 2 ^ 62) ⌝ }
     ensures { λ r. ⌜ take m (now (out .exit)) ≡ shares total (take m (now (weights .entry))) ⌝ }

@@ -1,7 +1,7 @@
 // Steps 2 to 5: units' heat and common heat.
 ghost use mathlib.Core.Path.{_≡_};
 ghost use mathlib.Core.Bool.{true};
-ghost use Prim.Native.Nat.{_+_, _<_};
+ghost use Prim.Native.Nat.{_+_, _≤_, _<_};
 ghost use lib.ListN.{length, take, replicate};
 ghost use Rattle.sheet.specs.Tests.{if_then_else_};
 ghost use Rattle.sheet.specs.Layout.{sheetOf};
@@ -129,9 +129,9 @@ pub(crate) fn heat_shares(
     units: &mut [u32],
     common: &mut [u32],
 )
-    requires { ⌜ Accepts (now s) basis × HeatParts (basis .rules) (sheetOf (now s)) parts × (now units ≡ replicate 160 0) × (now common ≡ replicate 160 0) ⌝ }
+    requires { ⌜ UnitsHeat (now s) basis (parts .units) (now units) × (parts .common ≤ 4000000000) × (now common ≡ replicate 160 0) ⌝ }
     ensures { λ _. ⌜ take (basis .units) (now (units .exit)) ≡ heat wholeWh (basis .rules) (sheetOf (now (s .entry))) ⌝ }
-    ensures { λ _. ⌜ take (basis .units) (now (common .exit)) ≡ commonHeat wholeWh (basis .rules) (sheetOf (now (s .entry))) ⌝ }
+    ensures { λ _. ⌜ take (basis .units) (now (common .exit)) ≡ commonHeat wholeWh (basis .rules) (sheetOf (now (s .entry))) (parts .common) ⌝ }
 {
     unit_heat(s, basis, parts.units, units);
     divide_by(s, basis, By::Area, parts.common, common);

@@ -2,12 +2,13 @@
 use mathlib.Core.Path.{_≡_}
 use mathlib.Core.Bool.{false}
 use mathlib.Core.List.{List}
-use Prim.Native.Nat.{ℕ, _<_}
+use Prim.Native.Nat.{ℕ, _≤_, _<_}
 use lib.ListN.{replicate}
+use Rattle.apportion.specs.Shares.{sum}
 use Rattle.sheet.specs.declared.rule_set.RuleSet.{RuleSet}
 use Rattle.sheet.specs.Layout.{Sheet, sheetOf}
 use Rattle.month.specs.Weights.{allMetered}
-use Rattle.month.specs.Steps.{wholeWh, splitBy, heatParts}
+use Rattle.month.specs.Steps.{wholeWh, splitBy, heatParts, energiesWith}
 use Rattle.weights.specs.Inner.Ready.{Accepts}
 use Rattle.settlement.specs.declared.divide.Parts.{Parts}
 use Rattle.weights.specs.declared.basis.Basis.{Basis}
@@ -33,3 +34,11 @@ pub record ByReadings (bytes : List ℕ) (b : Basis) (total : ℕ) (out : List �
   pub asked : UnitsHeat bytes b total out
   pub model : 2 < sheetOf bytes .model
   pub unmetered : allMetered (sheetOf bytes) ≡ false
+
+-- a sheet that is not refused, with the units' heat of step 2, and what steps 5 and 7 divide
+pub record Charged (bytes : List ℕ) (b : Basis) (parts : Parts) (bill : ℕ) : Type 0 where
+  pub accepts : Accepts bytes b
+  pub units : parts .units ≡ heatParts wholeWh (b .rules) (sheetOf bytes) .ofUnits
+  pub common-fits : parts .common ≤ 4000000000
+  pub bill-fits : bill ≤ 400000000
+  pub divisible : sum (energiesWith wholeWh (b .rules) (sheetOf bytes) (parts .common)) ≡ 0 → bill ≡ 0

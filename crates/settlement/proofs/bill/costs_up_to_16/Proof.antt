@@ -18,22 +18,22 @@ array-borrow-prefix-weights : tie.Need-array-borrow-prefix-weights
 array-borrow-prefix-weights c = search needs
 
 slice-aggregate-costs-in : tie.Need-slice-aggregate-costs-in
-slice-aggregate-costs-in c = sym (part (c .before .before .before .before))
+slice-aggregate-costs-in c = sym (part (c .before .before .before))
 
 array-borrow-prefix-remainders : tie.Need-array-borrow-prefix-remainders
 array-borrow-prefix-remainders c = search needs
 
 slice-aggregate-costs-in-2 : tie.Need-slice-aggregate-costs-in-2
-slice-aggregate-costs-in-2 c = sym (part (c .before .before .before .before .before))
+slice-aggregate-costs-in-2 c = sym (part (c .before .before .before .before))
 
 array-borrow-prefix-cents : tie.Need-array-borrow-prefix-cents
 array-borrow-prefix-cents c = search needs
 
 slice-aggregate-costs-in-3 : tie.Need-slice-aggregate-costs-in-3
-slice-aggregate-costs-in-3 c = sym (part (c .before .before .before .before .before .before))
+slice-aggregate-costs-in-3 c = sym (part (c .before .before .before .before .before))
 
 costs-in-requires : tie.Need-costs-in-requires
-costs-in-requires c κs = let st = c .before .before .before .before .before .before .before in (st .pre .0, (part st, part st, part st))
+costs-in-requires c κs = let st = c .before .before .before .before .before .before in (st .pre .0, (part st, part st, part st))
 
 same-length : tie.Need-same-length
 same-length c = search needs

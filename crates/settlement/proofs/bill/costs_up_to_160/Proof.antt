@@ -9,7 +9,7 @@ use Rattle.settlement.proofs.bill.costs_up_to_160.Statement.{statement}
 use Rattle.settlement.proofs.bill.costs_up_to_160.Tie as tie
 
 part : (st : tie.Start) → length {A = ℕ} (take (4 * st .args .basis .units) (replicate 640 0)) ≡ 4 * st .args .basis .units
-part st = lent-length 640 (4 * st .args .basis .units) (omega (arith, st .pre .accepts .count, st .pre .accepts .ready .fits .header .unitCount))
+part st = lent-length 640 (4 * st .args .basis .units) (omega (arith, st .pre .few))
 
 mul-m : tie.Need-mul-m
 mul-m c = search needs
@@ -18,22 +18,22 @@ array-borrow-prefix-weights : tie.Need-array-borrow-prefix-weights
 array-borrow-prefix-weights c = search needs
 
 slice-aggregate-costs-in : tie.Need-slice-aggregate-costs-in
-slice-aggregate-costs-in c = sym (part (c .before .before .before .before))
+slice-aggregate-costs-in c = sym (part (c .before .before .before))
 
 array-borrow-prefix-remainders : tie.Need-array-borrow-prefix-remainders
 array-borrow-prefix-remainders c = search needs
 
 slice-aggregate-costs-in-2 : tie.Need-slice-aggregate-costs-in-2
-slice-aggregate-costs-in-2 c = sym (part (c .before .before .before .before .before))
+slice-aggregate-costs-in-2 c = sym (part (c .before .before .before .before))
 
 array-borrow-prefix-cents : tie.Need-array-borrow-prefix-cents
 array-borrow-prefix-cents c = search needs
 
 slice-aggregate-costs-in-3 : tie.Need-slice-aggregate-costs-in-3
-slice-aggregate-costs-in-3 c = sym (part (c .before .before .before .before .before .before))
+slice-aggregate-costs-in-3 c = sym (part (c .before .before .before .before .before))
 
 costs-in-requires : tie.Need-costs-in-requires
-costs-in-requires c κs = let st = c .before .before .before .before .before .before .before in (st .pre, (part st, part st, part st))
+costs-in-requires c κs = let st = c .before .before .before .before .before .before in (st .pre, (part st, part st, part st))
 
 same-length : tie.Need-same-length
 same-length c = search needs

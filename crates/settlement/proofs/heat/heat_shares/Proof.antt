@@ -1,5 +1,6 @@
 -- One part after the other.
-use Rattle.settlement.proofs.Dividing.{area-common-heat, common-heat-is}
+use Rattle.settlement.proofs.Dividing.{by-area, common-heat-is}
+use mathlib.Core.Path.{refl}
 use borrow.Author.Needs.{needs}
 use Rattle.settlement.proofs.heat.heat_shares.Statement.{statement}
 use Rattle.settlement.proofs.heat.heat_shares.Tie as tie
@@ -8,7 +9,7 @@ unit-heat-requires : tie.Need-unit-heat-requires
 unit-heat-requires c κs = search needs
 
 divide-by-requires : tie.Need-divide-by-requires
-divide-by-requires c κs = let p = c .before .before .before .before .before .before .before .before .pre in (p .0, p .3, rw (p .1 .common) (area-common-heat (p .0)))
+divide-by-requires c κs = let p = c .before .before .before .before .before .before .before .before .pre in (p .0 .accepts, p .2, by-area (p .0 .accepts) _ (p .1))
 
 same-length : tie.Need-same-length
 same-length c = search needs
@@ -20,7 +21,7 @@ returns : tie.Need-returns
 returns c =
     let p = c .before .before .before .before .before .before .before .before .before .before .before .pre in
     let d = c .before .before .divide-by in
-    (c .before .before .before .before .before .before .unit-heat .ensures, common-heat-is (p .0) (d .last .1 .1 .1 .1 .0) (p .1 .common) (d .ensures))
+    (c .before .before .before .before .before .before .unit-heat .ensures, common-heat-is (p .0 .accepts) (d .last .1 .1 .1 .1 .0) refl (d .ensures))
 
 pub heat-shares-spec : {M : Type 1} → statement M
 heat-shares-spec = tie.close (tie.spec unit-heat-requires divide-by-requires same-length same-length-2 returns)
