@@ -5,7 +5,7 @@ use Prim.Native.Nat.{ℕ}
 use Rattle.sheet.specs.declared.refusal.Refusal.{Refusal}
 use Rattle.sheet.specs.declared.refusal.Refusal.the-variants.{TooShort, BadMagic, UnsupportedVersion, HeaderField, WrongLength, RowField, IdOrder}
 use Rattle.sheet.specs.declared.refusal.Refusal.the-variants.{HotWaterExceedsMeter, ZeroDivisor, NoReadings, MetersExceedHeat, UnmeteredExceedsHeat}
-use Rattle.sheet.specs.declared.refusal.Refusal.the-variants.{BufferLength, BadArchive, BadYearBook, OtherBuilding, MonthState, NoSuchUnit, BadYearSums, FieldConflict}
+use Rattle.sheet.specs.declared.refusal.Refusal.the-variants.{BufferLength, BadArchive, BadYearBook, OtherBuilding, MonthState, NoSuchUnit, BadYearSums, FieldConflict, NegativeCommonHeat, BadGroup}
 use Rattle.sheet.specs.declared.refusal.Outcome.{Outcome}
 use Rattle.sheet.specs.declared.refusal.Outcome.the-variants.{Accepted, Refused}
 
@@ -31,6 +31,8 @@ numberOf MonthState = 17  -- month
 numberOf NoSuchUnit = 18  -- place
 numberOf BadYearSums = 19  -- sums (2026-02)
 numberOf (FieldConflict i) = 20  -- clash (2026-03)
+numberOf NegativeCommonHeat = 21  -- difference (2026-04)
+numberOf BadGroup = 22  -- group (2026-04)
 
 -- the place: the row from 0 for 6, 7 and 20; the header field's first byte in the sheet for 4 (2026-03); else 0
 abbrev pub placeOf : Refusal → ℕ
@@ -54,6 +56,8 @@ placeOf MonthState = 0
 placeOf NoSuchUnit = 0
 placeOf BadYearSums = 0
 placeOf (FieldConflict i) = i
+placeOf NegativeCommonHeat = 0
+placeOf BadGroup = 0
 
 -- A rule `condition ⇒ refusal`.
 infix 20 _⇒_

@@ -1,4 +1,4 @@
-// Why a sheet or a call is refused (document 01, "Refused sheets and calls", 19 by request 2026-02, 20 by 2026-03). The row cases hold the row's place, from 0; the header case holds the byte offset in the sheet.
+// Why a sheet or a call is refused (document 01, "Refused sheets and calls", 19 by request 2026-02, 20 by 2026-03, 21 and 22 by 2026-04). The row cases hold the row's place, from 0; the header case holds the byte offset in the sheet.
 ghost use mathlib.Core.Path.{_≡_};
 ghost use Rattle.sheet.specs.Refusals.{numberOf, placeOf};
 
@@ -23,6 +23,8 @@ pub enum Refusal {
     NoSuchUnit,
     BadYearSums,
     FieldConflict(u32),
+    NegativeCommonHeat,
+    BadGroup,
 }
 
 pub enum Outcome {
@@ -57,6 +59,8 @@ fn told_by(r: Refusal) -> Told
         Refusal::NoSuchUnit => Told(18, 0),
         Refusal::BadYearSums => Told(19, 0),
         Refusal::FieldConflict(i) => Told(20, i),
+        Refusal::NegativeCommonHeat => Told(21, 0),
+        Refusal::BadGroup => Told(22, 0),
     }
 }
 

@@ -68,6 +68,12 @@ enum-told-16 c = search needs
 enum-known-r-4 : tie.Need-enum-known-r-4
 enum-known-r-4 c = search needs
 
+enum-told-17 : tie.Need-enum-told-17
+enum-told-17 c = search needs
+
+enum-told-18 : tie.Need-enum-told-18
+enum-told-18 c = search needs
+
 returns : tie.Need-returns
 returns c = told (c .enum-told .given .1)
 
@@ -128,6 +134,12 @@ returns-19 c = told (c .enum-told16 .given .1)
 returns-20 : tie.Need-returns-20
 returns-20 c = told (c .before .r4 .given .1)
 
+returns-21 : tie.Need-returns-21
+returns-21 c = told (c .enum-told17 .given .1)
+
+returns-22 : tie.Need-returns-22
+returns-22 c = told (c .enum-told18 .given .1)
+
 pub told-by-spec : {M : Type 1} → statement M
 told-by-spec =
     tie.close
@@ -152,6 +164,8 @@ told-by-spec =
     enum-told-15
     enum-told-16
     enum-known-r-4
+    enum-told-17
+    enum-told-18
     returns
     returns-2
     returns-3
@@ -171,4 +185,6 @@ told-by-spec =
     returns-17
     returns-18
     returns-19
-    returns-20)
+    returns-20
+    returns-21
+    returns-22)

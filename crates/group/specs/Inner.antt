@@ -1,0 +1,4 @@
+-- What inner functions promise each other. Nothing in here need be believed.
+pub mod Spans
+pub mod Figures
+pub mod Accepted
