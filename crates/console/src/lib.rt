@@ -67,10 +67,16 @@ pub fn next32() -> u32 {
         + 16777216 * wide_byte(bytes[3])
 }
 
-fn wide(x: u32) -> u64
+pub fn wide(x: u32) -> u64
     ensures { λ r. ⌜ r < 4294967296 ⌝ }
 {
     x as u64
+}
+
+// The next number of 64 bits; 0 in place of a half that the input no longer has.
+pub fn next64() -> u64 {
+    let low = wide(next32());
+    low + 4294967296 * wide(next32())
 }
 
 // A list as one number.

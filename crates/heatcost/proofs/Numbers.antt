@@ -1,11 +1,11 @@
--- A refusal's number is at most 19. Assumes nothing.
+-- A refusal's number is at most 22. Assumes nothing.
 use Prim.Native.Nat.{_≤_}
 use native.Mathlib.Omega.{arith}
 use Rattle.sheet.specs.declared.refusal.Refusal.{Refusal}
-use Rattle.sheet.specs.declared.refusal.Refusal.the-variants.{TooShort, BadMagic, UnsupportedVersion, HeaderField, WrongLength, RowField, IdOrder, HotWaterExceedsMeter, ZeroDivisor, NoReadings, MetersExceedHeat, UnmeteredExceedsHeat, BufferLength, BadArchive, BadYearBook, OtherBuilding, MonthState, NoSuchUnit, BadYearSums, FieldConflict}
+use Rattle.sheet.specs.declared.refusal.Refusal.the-variants.{TooShort, BadMagic, UnsupportedVersion, HeaderField, WrongLength, RowField, IdOrder, HotWaterExceedsMeter, ZeroDivisor, NoReadings, MetersExceedHeat, UnmeteredExceedsHeat, BufferLength, BadArchive, BadYearBook, OtherBuilding, MonthState, NoSuchUnit, BadYearSums, FieldConflict, NegativeCommonHeat, BadGroup}
 use Rattle.sheet.specs.Refusals.{numberOf}
 
-pub number-le : (r : Refusal) → numberOf r ≤ 20
+pub number-le : (r : Refusal) → numberOf r ≤ 22
 number-le TooShort = omega arith
 number-le BadMagic = omega arith
 number-le UnsupportedVersion = omega arith
@@ -26,3 +26,5 @@ number-le MonthState = omega arith
 number-le NoSuchUnit = omega arith
 number-le BadYearSums = omega arith
 number-le (FieldConflict i) = omega arith
+number-le NegativeCommonHeat = omega arith
+number-le BadGroup = omega arith

@@ -1,7 +1,7 @@
 // The calls for other languages. An answer of 32 bits is 0 when accepted, else number + 256 × place; one of 64 bits is a length.
 ghost use mathlib.Core.Path.{_≡_};
 ghost use mathlib.Core.List.{_∷_};
-ghost use Prim.Native.Nat.{_≤_};
+ghost use Prim.Native.Nat.{_≤_, _<_};
 ghost use lib.ListN.{length};
 ghost use Rattle.sheet.specs.Inner.Places.{PlaceBelow};
 ghost use Rattle.sheet.specs.RuleSets.{newest};
@@ -11,8 +11,11 @@ ghost use Rattle.archive.specs.Writer.{writeAnswer, recordAfter};
 ghost use Rattle.archive.specs.Reader.{readOutcome, countOf};
 ghost use Rattle.printing.specs.Printed.{printed, longest, atFront};
 ghost use Rattle.yearbook.specs.LentBook.{lent, openAnswer, opened, postAnswer, posted, replaceAnswer, replaced, withdrawAnswer, withdrawn};
-ghost use Rattle.heatcost.specs.Answer.{answerNumber};
+ghost use Rattle.group.specs.Answer.{groupAnswer, groupAfter};
+ghost use Rattle.heatcost.specs.Answer.{answerNumber, groupNumber};
 ghost use Rattle.heatcost.specs.Year.{yearListAnswer, yearListAfter};
+use group::Building;
+use group::GroupAnswer;
 use sheet::Outcome;
 use sheet::Refusal;
 
@@ -133,4 +136,30 @@ pub extern "C" fn heatcost_year(book: &[u32], sums: &[u64], place: u32, totals: 
     };
     put_totals(t.k, &unit, totals);
     0
+}
+
+// A group's answer: number + 256 × (place + 160 × building).
+fn group_answer(a: GroupAnswer) -> u32
+    requires { ⌜ PlaceBelow 160 (a .outcome) × (a .building < 12) ⌝ }
+    ensures { λ r. ⌜ r ≡ groupNumber a ⌝ }
+{
+    let outcome = a.outcome;
+    match outcome {
+        Outcome::Accepted => 0,
+        Outcome::Refused(r) => sheet::number(r) + 256 * (sheet::place(r) + 160 * a.building),
+    }
+}
+
+// The statement of a group's sheets, which lie in one buffer, into one list (2026-04).
+#[no_mangle]
+pub extern "C" fn heatcost_settle_group(
+    sheets: &[u8],
+    buildings: &[Building],
+    reading: u64,
+    statement: &mut [u32],
+) -> u32
+    ensures { λ r. ⌜ r ≡ groupNumber (groupAnswer newest (now (sheets .entry)) (now (buildings .entry)) reading (now (statement .entry))) ⌝ }
+    ensures { λ _. ⌜ now (statement .exit) ≡ groupAfter newest (now (sheets .entry)) (now (buildings .entry)) reading (now (statement .entry)) ⌝ }
+{
+    group_answer(group::settle_group(sheets, buildings, reading, statement))
 }

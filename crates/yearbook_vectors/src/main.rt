@@ -4,7 +4,7 @@
 // 6 writes one of the sums: its place in 16 bits and the number in 64; 7 tells how many sums are lent, in 16 bits;
 // any other kind writes a number of the book: its place and the number, in 16 bits each.
 ghost use mathlib.Core.Path.{_≡_};
-ghost use Prim.Native.Nat.{_≤_, _<_};
+ghost use Prim.Native.Nat.{_≤_};
 ghost use lib.ListN.{length};
 use libc::STDIN_FILENO;
 use libc::STDOUT_FILENO;
@@ -92,16 +92,9 @@ fn call(book: &mut [u32], sums: &mut [u64], kind: u32) {
     write_number(book);
 }
 
-fn half() -> u64
-    ensures { λ r. ⌜ r < 4294967296 ⌝ }
-{
-    console::next32() as u64
-}
-
 fn write_sum(sums: &mut [u64]) {
     let place = console::next16() as usize;
-    let low = half();
-    let x = low + 4294967296 * half();
+    let x = console::next64();
     if sums.len() <= place {
         return;
     }
