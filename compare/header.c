@@ -31,6 +31,10 @@ static void lengths(void)
     EXPECT(HEATCOST_RECORD_LEN(HEATCOST_MAX_UNITS), 10296);
     EXPECT(HEATCOST_PRINT_LEN(1 + 2), 346);
     EXPECT(HEATCOST_PRINT_LEN(HEATCOST_MAX_UNITS), 15889);
+    EXPECT(HEATCOST_STATEMENT_LEN(HEATCOST_MAX_BUILDINGS * HEATCOST_MAX_UNITS), 15360);
+    EXPECT(sizeof(heatcost_building), 16);
+    EXPECT(offsetof(heatcost_building, offset), 0);
+    EXPECT(offsetof(heatcost_building, length), 8);
 }
 
 static void answers(void)
@@ -42,7 +46,8 @@ static void answers(void)
     EXPECT(HEATCOST_NUMBER(256 * 159 + 20), HEATCOST_FIELD_CONFLICT);
     EXPECT(HEATCOST_PLACE(256 * 159 + 20), 159);
     EXPECT(HEATCOST_PLACE(256 * 44 + 4), 44);
-    EXPECT(strcmp(heatcost_text(21), "no such number"), 0);
+    EXPECT(strcmp(heatcost_text(256 * 1760 + 22), heatcost_text(HEATCOST_BAD_GROUP)), 0);
+    EXPECT(strcmp(heatcost_text(HEATCOST_BAD_GROUP + 1), "no such number"), 0);
     EXPECT(strcmp(heatcost_text(255), "no such number"), 0);
 }
 
@@ -76,13 +81,48 @@ static void places(void)
     EXPECT(heatcost_read_record(record, sizeof record), 256 * 11 + 4);
 }
 
+/* A group of two: places in its second building, 4's byte and a place of 0 too; what refuses the group; sheets that are
+ * one. */
+static void groups(void)
+{
+    enum { LEN = HEATCOST_SHEET_LEN(1), NUMBERS = HEATCOST_STATEMENT_LEN(2) };
+    uint8_t sheets[2 * LEN];
+    uint32_t statement[NUMBERS];
+    heatcost_building two[2] = {{0, LEN}, {LEN, LEN}};
+    make_sheet(sheets, 1);
+    make_sheet(sheets + LEN, 2);
+    EXPECT(heatcost_settle_group(sheets, 2 * LEN, two, 2, 768, statement, NUMBERS), HEATCOST_ACCEPTED);
+    EXPECT(statement[0], 256);
+    EXPECT(statement[8], 512);
+    EXPECT(heatcost_settle_group(sheets, 2 * LEN, two, 2, 770, statement, NUMBERS), HEATCOST_ACCEPTED);
+    EXPECT(statement[1], 1);
+    EXPECT(statement[9], 1);
+    EXPECT(heatcost_settle_group(sheets, 2 * LEN, two, 2, 766, statement, NUMBERS), HEATCOST_NEGATIVE_COMMON_HEAT);
+    EXPECT(heatcost_settle_group(sheets, 2 * LEN, two, 2, 0, statement, 8), HEATCOST_BUFFER_LENGTH);
+    EXPECT(heatcost_settle_group(sheets, 2 * LEN, two, 2, 4000000001u, statement, NUMBERS), HEATCOST_BAD_GROUP);
+    EXPECT(heatcost_settle_group(sheets, 2 * LEN - 1, two, 2, 768, statement, NUMBERS), HEATCOST_BAD_GROUP);
+    sheets[LEN + 48 + 4] = 1; /* status, in model 2 */
+    EXPECT(heatcost_settle_group(sheets, 2 * LEN, two, 2, 768, statement, NUMBERS), 256 * 160 + 20);
+    sheets[LEN + 44] = 1; /* the last hot water reading, with source 0 */
+    EXPECT(heatcost_settle_group(sheets, 2 * LEN, two, 2, 768, statement, NUMBERS), 256 * (160 + 44) + 4);
+    two[1].length = 47;
+    EXPECT(heatcost_settle_group(sheets, 2 * LEN, two, 2, 768, statement, NUMBERS), 256 * 160 + 1);
+    two[1] = two[0];
+    EXPECT(heatcost_settle_group(sheets, LEN, two, 2, 512, statement, NUMBERS), HEATCOST_ACCEPTED);
+}
+
 /* Every list as NULL with a count of 0. */
 static void nulls(void)
 {
     uint8_t sheet[HEATCOST_SHEET_LEN(1)];
+    heatcost_building nothing = {0, 0}, whole = {0, HEATCOST_SHEET_LEN(1)};
     make_sheet(sheet, 0);
     EXPECT(heatcost_settle(NULL, 0, NULL, 0), HEATCOST_TOO_SHORT);
     EXPECT(heatcost_settle(sheet, sizeof sheet, NULL, 0), HEATCOST_BUFFER_LENGTH);
+    EXPECT(heatcost_settle_group(NULL, 0, NULL, 0, 0, NULL, 0), HEATCOST_BAD_GROUP);
+    EXPECT(heatcost_settle_group(sheet, sizeof sheet, NULL, 0, 0, NULL, 0), HEATCOST_BAD_GROUP);
+    EXPECT(heatcost_settle_group(NULL, 0, &nothing, 1, 0, NULL, 0), HEATCOST_TOO_SHORT);
+    EXPECT(heatcost_settle_group(sheet, sizeof sheet, &whole, 1, 0, NULL, 0), HEATCOST_BUFFER_LENGTH);
     EXPECT(heatcost_print(NULL, 0, NULL, 0), strlen("refused 1 0\n"));
     EXPECT(heatcost_print(sheet, sizeof sheet, NULL, 0), strlen("month 1 units 1 wh 0 cents 0\n0 0 0 0 0 0 0 0 0\n"));
     EXPECT(heatcost_write_record(NULL, 0, NULL, 0), HEATCOST_TOO_SHORT);
@@ -170,6 +210,7 @@ int main(void)
     lengths();
     answers();
     places();
+    groups();
     nulls();
     nulls_of_a_year();
     threads();

@@ -13,20 +13,22 @@
  *
  * Answers. A uint64_t is a length. A uint32_t is 0 for accepted, else the refusal's number + 256 * its place: for 4 the
  * first wrong header field's byte in the sheet, in a record too; for 6, 7 and 20 the row, counted from 0; for all
- * others 0. Refusals are tested in the order that stands with the call, and the first that holds is the answer. 6, 20
- * and 7 go row by row: in a row field by field, at each field first 6, then 20; after its fields 7. So 20 stands beside
- * 6, before 8 to 12. A refused call leaves every list, book and sums too, as it was. Printing is never refused: a
- * refusal has a text too.
+ * others 0. In a group a building's own refusal, 1 to 12 or 20, has its place raised by 160 * the building's place in
+ * the list, from 0: that is place / HEATCOST_MAX_UNITS, and the remainder is the row or byte. Refusals are tested in
+ * the order that stands with the call, and the first that holds is the answer. 6, 20 and 7 go row by row: in a row
+ * field by field, at each field first 6, then 20; after its fields 7. So 20 stands beside 6, before 8 to 12. A refused
+ * call leaves every list, book and sums too, as it was. Printing is never refused: a refusal has a text too.
  *
  * Threads. Nothing is kept between calls, and the library has no data that it writes. Calls may run side by side as
  * long as no list that one of them writes is used by another.
  *
- * Rules. Settling, printing, writing a record, posting and replacing go by the newest rules, those of archive version
- * 2; reading a record goes by the rules of the record's own version, 1 or 2 (docs/FORMAT.md, "Archive versions").
+ * Rules. Settling, alone or in a group, printing, writing a record, posting and replacing go by the newest rules, those
+ * of archive version 2; reading a record goes by the rules of the record's own version, 1 or 2 (docs/FORMAT.md,
+ * "Archive versions").
  *
  * Memory. No call uses the heap: memcpy and memset are all that the library needs from outside (`nm -u`). A call takes
- * at most HEATCOST_STACK bytes of stack: settling 18,000; printing, writing or reading a record, posting and replacing
- * 23,100; withdrawing 5,300; opening and the year call 300. `compare/run stack` measures this on a painted stack. The
+ * at most HEATCOST_STACK bytes of stack: settling 18,100, a group 20,000; printing, writing or reading a record, posting
+ * and replacing 23,400; withdrawing 5,300; opening and the year call 300. `compare/run stack` measures this on a painted stack. The
  * caller's own frames come on top, and what the system needs: a thread's own block, a first lookup of memcpy or memset.
  */
 #ifndef HEATCOST_H
@@ -55,6 +57,9 @@
 #define HEATCOST_SUMS_LEN 1280
 #define HEATCOST_TOTALS_LEN 9
 
+/* The most buildings of a group. */
+#define HEATCOST_MAX_BUILDINGS 12
+
 /* The two parts of an answer. */
 #define HEATCOST_NUMBER(answer) ((answer) % 256u)
 #define HEATCOST_PLACE(answer) ((answer) / 256u)
@@ -80,7 +85,9 @@ enum heatcost_number {
     HEATCOST_MONTH_STATE = 17,
     HEATCOST_NO_SUCH_UNIT = 18,
     HEATCOST_BAD_YEAR_SUMS = 19,
-    HEATCOST_FIELD_CONFLICT = 20
+    HEATCOST_FIELD_CONFLICT = 20,
+    HEATCOST_NEGATIVE_COMMON_HEAT = 21,
+    HEATCOST_BAD_GROUP = 22
 };
 
 /* One line of text for a number, or for a whole answer. */
@@ -129,10 +136,20 @@ static inline const char *heatcost_text(uint32_t number)
         return "not the book's sums: not 1,280 numbers, or one would go below 0 or past 64 bits";
     case HEATCOST_FIELD_CONFLICT:
         return "a field of that row is in range, but doesn't go with model, source, status or class";
+    case HEATCOST_NEGATIVE_COMMON_HEAT:
+        return "a building's share of the difference is below 0 by more than its common heat";
+    case HEATCOST_BAD_GROUP:
+        return "not a group: count, shared reading or a sheet's bytes out of range, or a month or price differs";
     default:
         return "no such number";
     }
 }
+
+/* A building of a group: where its sheet lies among the bytes of all sheets. */
+typedef struct heatcost_building {
+    uint64_t offset;
+    uint64_t length;
+} heatcost_building;
 
 #ifdef __cplusplus
 extern "C" {
@@ -141,6 +158,24 @@ extern "C" {
 /* Settles a sheet. Writes the statement, 8 numbers a unit: heat, common heat, water and common water in Wh, then the
  * same in cents. Refusals 1 to 12 with 20, then 13 unless statement_len is HEATCOST_STATEMENT_LEN(n). */
 uint32_t heatcost_settle(const uint8_t *sheet, size_t sheet_len, uint32_t *statement, size_t statement_len);
+
+/* Settles a group: 1 to HEATCOST_MAX_BUILDINGS buildings, each with a meter of its own, whose reading is M in its
+ * sheet, behind one shared meter, whose reading is shared_wh, at most 4,000,000,000. sheets has the bytes of all
+ * sheets, and buildings says where each sheet lies: in any order, with bytes between them, even over each other or one
+ * for several buildings. Models and ids may be any.
+ *
+ * Writes the statements, building after building in the order of the list, 8 numbers a unit as heatcost_settle does,
+ * but for two things. The difference, shared_wh less the sum of M, is divided by the buildings' areas and added to each
+ * one's common heat, or taken from it when it is below 0. And the bill is that of shared_wh, divided over the buildings
+ * by M with the share of the difference, then within each. All Wh add to shared_wh, all cents to its bill. A year book
+ * takes no such month.
+ *
+ * Refusals: 22 for a wrong count of buildings, a shared_wh over its limit, or an offset and length past the end of
+ * sheets; each building's 1 to 12 with 20, in the order of the list; 22 for a month or price other than the first
+ * building's; 13 unless statement_len is HEATCOST_STATEMENT_LEN(units of all buildings); 21 when a common heat would go
+ * below 0. */
+uint32_t heatcost_settle_group(const uint8_t *sheets, size_t sheets_len, const heatcost_building *buildings,
+                               size_t buildings_len, uint64_t shared_wh, uint32_t *statement, size_t statement_len);
 
 /* Prints a sheet: its month, or the line of its refusal, 1 to 12 with 20 (docs/FORMAT.md, "The printed form"). Answers
  * how many bytes that text has, no zero byte among them: at most HEATCOST_PRINT_LEN(n), refused at most

@@ -1,9 +1,16 @@
 //! Document 01, "Dividing": the largest-remainder method.
 
-/// Divides `total` by `weights`. With a weight sum of 0 every share is 0.
-///
-/// The total is below 2^32, so that every share fits 32 bits.
+/// Divides `total` by `weights`. The total is below 2^32, so that every share
+/// fits 32 bits.
 pub fn apportion(total: u64, weights: &[u64]) -> Vec<u32> {
+    wide_shares(total, weights)
+        .into_iter()
+        .map(|share| u32::try_from(share).expect("the total is below 2^32"))
+        .collect()
+}
+
+/// The same for any total. With a weight sum of 0 every share is 0.
+pub fn wide_shares(total: u64, weights: &[u64]) -> Vec<u64> {
     let weight_sum: u128 = weights.iter().map(|&weight| u128::from(weight)).sum();
     if weight_sum == 0 {
         return vec![0; weights.len()];
@@ -26,7 +33,7 @@ pub fn apportion(total: u64, weights: &[u64]) -> Vec<u32> {
     }
     shares
         .into_iter()
-        .map(|share| u32::try_from(share).expect("the total is below 2^32"))
+        .map(|share| u64::try_from(share).expect("no share is above the total"))
         .collect()
 }
 

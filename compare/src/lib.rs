@@ -1,5 +1,5 @@
 //! An independent implementation of document 01 in plain Rust, with requests
-//! 2026-01, 2026-02 and 2026-03.
+//! 2026-01 to 2026-04.
 //!
 //! It was written from the documents alone and shares no code with the product.
 //! Nothing here is proved. It makes the stored vectors of the gate, and it is
@@ -29,6 +29,15 @@
 //!   kind 7 lends another count of sums from there on (16 bits). A line is
 //!   number and place, for a year call k and the sums, then the book and all
 //!   1,281 sums as a number each.
+//! - `cargo run --release --bin group_vectors FOLDER`: request 2026-04. A vector
+//!   is the length of all that follows (16 bits, at most 15,999), the count of
+//!   buildings (8 bits, at most 13), for each its offset and its length (64 bits
+//!   each), the shared reading (64 bits), the count of numbers in the lent list
+//!   (16 bits, at most 2,561), and the buffer with the sheets: the bytes that
+//!   are left. The list holds 1, 2, 3 and so on before the call. A line is
+//!   number and place; then, for an accepted group of at most 64 numbers, the
+//!   list's numbers, in every other case the list afterwards as one number
+//!   (`vectors::digest`).
 //!
 //! All numbers in `stdin` are little-endian. `cargo test --release` runs the
 //! document's cases and the random checks. `compare/run` compares the library
@@ -44,6 +53,10 @@ pub mod damage;
 pub mod edges;
 pub mod fast;
 pub mod faults;
+pub mod group;
+pub mod group_faults;
+pub mod group_laws;
+pub mod groups;
 pub mod plain_book;
 pub mod portions;
 pub mod print;

@@ -23,7 +23,7 @@ impl Fraction {
     }
 
     /// The part T × w / W, or 0 when W = 0.
-    fn part(&self, weight: u64, weight_sum: u64) -> Fraction {
+    pub fn part(&self, weight: u64, weight_sum: u64) -> Fraction {
         if weight_sum == 0 {
             return Fraction::new(0, 1);
         }
@@ -42,7 +42,7 @@ impl Fraction {
             .collect()
     }
 
-    fn negated(&self) -> Fraction {
+    pub fn negated(&self) -> Fraction {
         Fraction {
             upper: self.upper.negated(),
             lower: self.lower.clone(),
@@ -84,6 +84,12 @@ impl Fraction {
 /// Per unit the unrounded heat, common heat, water and common water of a sheet
 /// that settles.
 pub fn portions(sheet: &Sheet, rules: RuleSet) -> Vec<[Fraction; 4]> {
+    portions_with(sheet, rules, &Fraction::new(0, 1))
+}
+
+/// The same with a share of a difference, perhaps negative, in the common heat
+/// (request 2026-04).
+pub fn portions_with(sheet: &Sheet, rules: RuleSet, share: &Fraction) -> Vec<[Fraction; 4]> {
     let (upper, lower) = hot_water(&sheet.header);
     let hot_water = Fraction::new(upper, lower);
     let meter = Fraction::new(u64::from(sheet.header.shared_meter_wh), 1);
@@ -102,7 +108,7 @@ pub fn portions(sheet: &Sheet, rules: RuleSet) -> Vec<[Fraction; 4]> {
     };
     let (unit_water, common_water) = split(&hot_water, sheet.header.common_water_percent);
 
-    let common_heat = common_heat.divide(&column(sheet, heated_area));
+    let common_heat = common_heat.plus(share).divide(&column(sheet, heated_area));
     let water = unit_water.divide(&unit_water_weights(sheet));
     let common_water = common_water.divide(&common_water_weights(sheet));
     let columns = [heat, common_heat, water, common_water];
@@ -177,7 +183,7 @@ fn bill_part(outcome: &Outcome, wh: u64) -> Fraction {
     bill.part(wh, u64::from(outcome.shared_meter_wh))
 }
 
-fn require(holds: bool, promise: &'static str) -> Result<(), &'static str> {
+pub fn require(holds: bool, promise: &'static str) -> Result<(), &'static str> {
     if holds {
         Ok(())
     } else {

@@ -1,8 +1,9 @@
-//! Document 01, "Refused sheets and calls", with requests 2026-02 and 2026-03:
+//! Document 01, "Refused sheets and calls", with requests 2026-02 to 2026-04:
 //! numbers and places.
 
 /// A refusal's number, and its place: the row for 6, 7 and 20, the header
-/// field's byte in the sheet for 4, else 0.
+/// field's byte in the sheet for 4, else 0; a building's own refusal in a group
+/// has it raised by 160 × the building's place.
 #[derive(Clone, Copy, Debug, PartialEq, Eq)]
 pub struct Refusal {
     pub number: u32,
@@ -49,6 +50,10 @@ pub const NO_SUCH_UNIT: u32 = 18;
 pub const BAD_YEAR_SUMS: u32 = 19;
 /// clash
 pub const FIELD_CONFLICT: u32 = 20;
+/// difference
+pub const NEGATIVE_COMMON_HEAT: u32 = 21;
+/// group
+pub const BAD_GROUP: u32 = 22;
 
 /// A refusal at place 0.
 pub fn refuse<T>(number: u32) -> Result<T, Refusal> {

@@ -71,7 +71,17 @@ pub fn random_ids(rng: &mut Rng, unit_count: usize) -> Vec<u32> {
 
 /// A sheet of a given month, model, source and building.
 pub fn random_sheet_of(rng: &mut Rng, month: u8, model: u8, source: u8, ids: &[u32]) -> Sheet {
-    let header = random_header(rng, month, model, source, ids.len());
+    random_metered_sheet(rng, [month, model, source], ids, random_meter)
+}
+
+/// The same with month, model and source in one, and with an M of its own.
+pub fn random_metered_sheet(
+    rng: &mut Rng,
+    kind: [u8; 3],
+    ids: &[u32],
+    meter: impl FnOnce(&mut Rng) -> u32,
+) -> Sheet {
+    let header = random_header(rng, kind, ids.len(), meter);
     let mut sheet = Sheet {
         header,
         units: Vec::new(),
@@ -84,7 +94,12 @@ pub fn random_sheet_of(rng: &mut Rng, month: u8, model: u8, source: u8, ids: &[u
     sheet
 }
 
-fn random_header(rng: &mut Rng, month: u8, model: u8, source: u8, unit_count: usize) -> Header {
+fn random_header(
+    rng: &mut Rng,
+    [month, model, source]: [u8; 3],
+    unit_count: usize,
+    meter: impl FnOnce(&mut Rng) -> u32,
+) -> Header {
     let mut edge = |low: u64, high: u64| rng.edge(low, high) as u8;
     let (base_percent, common_heat_percent, unmetered_factor) = match model {
         1 | 2 => (0, 0, 0),
@@ -94,7 +109,7 @@ fn random_header(rng: &mut Rng, month: u8, model: u8, source: u8, unit_count: us
     };
     let common_water_percent = if source == 0 { 0 } else { edge(0, 50) };
     let loss_factor = if source == 2 { edge(50, 200) } else { 0 };
-    let shared_meter_wh = random_meter(rng);
+    let shared_meter_wh = meter(rng);
     Header {
         month,
         model,

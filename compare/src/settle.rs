@@ -34,17 +34,23 @@ pub fn settle_bytes(bytes: &[u8]) -> Result<Outcome, Refusal> {
 /// Settles a sheet that passed the check: refusals 8 to 12.
 pub fn settle_sheet(sheet: &Sheet, rules: RuleSet) -> Result<Outcome, Refusal> {
     check_month(sheet)?;
-    let bill_cents = bill(sheet);
-    let energies = energies(sheet, rules);
-    let costs = costs(bill_cents, &energies);
+    let shared_meter_wh = sheet.header.shared_meter_wh;
+    let bill_cents = bill(u64::from(shared_meter_wh), sheet.header.price);
     Ok(Outcome {
         month: sheet.header.month,
         unit_count: sheet.units.len(),
         ids: sheet.units.iter().map(|unit| unit.id).collect(),
-        shared_meter_wh: sheet.header.shared_meter_wh,
+        shared_meter_wh,
         bill_cents,
-        numbers: statement(&energies, &costs),
+        numbers: numbers(sheet, rules, common_heat(sheet), bill_cents),
     })
+}
+
+/// The statement of a sheet that isn't refused, by its common heat and its
+/// bill.
+pub fn numbers(sheet: &Sheet, rules: RuleSet, common_heat: u64, bill_cents: u32) -> Vec<u32> {
+    let energies = energies(sheet, rules, common_heat);
+    statement(&energies, &costs(bill_cents, &energies))
 }
 
 /// Per unit four Wh, four cents.
@@ -69,7 +75,7 @@ fn space_heat(sheet: &Sheet) -> u64 {
 }
 
 /// Refusals 8 to 12.
-fn check_month(sheet: &Sheet) -> Result<(), Refusal> {
+pub fn check_month(sheet: &Sheet) -> Result<(), Refusal> {
     refuse_first(&[
         (HOT_WATER_EXCEEDS_METER, hot_water_exceeds(sheet)),
         (ZERO_DIVISOR, zero_divisor(sheet)),
@@ -129,16 +135,24 @@ fn split(total: u64, percent: u8) -> (u64, u64) {
     (u64::from(parts[0]), u64::from(parts[1]))
 }
 
-/// Steps 2 to 6: per unit heat, common heat, water, common water.
-fn energies(sheet: &Sheet, rules: RuleSet) -> Vec<[u32; 4]> {
-    let (heat, common_heat) = if all_metered(sheet) {
-        let heat = sheet.units.iter().map(|unit| unit.reading).collect();
-        (heat, space_heat(sheet) - sum(&sheet.units, reading))
-    } else {
-        let percent = sheet.header.common_heat_percent;
-        let (unit_heat, common_heat) = split(space_heat(sheet), percent);
-        (heat_parts(sheet, unit_heat, rules), common_heat)
-    };
+/// Step 2: units' heat and common heat.
+fn heat(sheet: &Sheet) -> (u64, u64) {
+    if all_metered(sheet) {
+        let metered = sum(&sheet.units, reading);
+        return (metered, space_heat(sheet) - metered);
+    }
+    let percent = sheet.header.common_heat_percent;
+    split(space_heat(sheet), percent)
+}
+
+/// Step 2: common heat.
+pub fn common_heat(sheet: &Sheet) -> u64 {
+    heat(sheet).1
+}
+
+/// Steps 3 to 6: per unit heat, common heat, water, common water.
+fn energies(sheet: &Sheet, rules: RuleSet, common_heat: u64) -> Vec<[u32; 4]> {
+    let heat = heat_parts(sheet, heat(sheet).0, rules);
     let percent = sheet.header.common_water_percent;
     let (unit_water, common_water) = split(hot_water_wh(sheet), percent);
 
@@ -150,8 +164,11 @@ fn energies(sheet: &Sheet, rules: RuleSet) -> Vec<[u32; 4]> {
         .collect()
 }
 
-/// Steps 3 and 4: each unit's heat.
+/// Steps 3 and 4: each unit's heat; by step 2's exception its reading.
 fn heat_parts(sheet: &Sheet, unit_heat: u64, rules: RuleSet) -> Vec<u32> {
+    if all_metered(sheet) {
+        return sheet.units.iter().map(|unit| unit.reading).collect();
+    }
     match sheet.header.model {
         1 | 2 => apportion(unit_heat, &unmetered_model_weights(sheet)),
         _ => metered_heat_parts(sheet, unit_heat, rules),
@@ -177,8 +194,8 @@ fn metered_heat_parts(sheet: &Sheet, unit_heat: u64, rules: RuleSet) -> Vec<u32>
 }
 
 /// Step 7: M × price / 1,000,000 in cents, half up.
-pub fn bill(sheet: &Sheet) -> u32 {
-    let cost = u64::from(sheet.header.shared_meter_wh) * u64::from(sheet.header.price);
+pub fn bill(shared_meter_wh: u64, price: u32) -> u32 {
+    let cost = shared_meter_wh * u64::from(price);
     let cents = (cost + 500_000) / 1_000_000;
     u32::try_from(cents).expect("at most 400,000,000")
 }

@@ -4,6 +4,8 @@ use compare::book::{self, BOOK_LEN, SUMS_LEN};
 use compare::damage::damaged_sheet;
 use compare::edges::{border_sheet, sheet_at_an_end};
 use compare::faults::faulty_sheet;
+use compare::group;
+use compare::groups::{random_group, Group};
 use compare::refusal::Refusal;
 use compare::rng::Rng;
 use compare::rules::RuleSet;
@@ -148,6 +150,44 @@ fn books() {
     }
 }
 
+/// The fast form's answer, and the list afterwards.
+fn fast_group<const RECIPROCAL: bool>(group: &Group) -> (Result<(), Refusal>, Vec<u32>) {
+    let Group {
+        buffer,
+        buildings,
+        shared_wh,
+        list_len,
+    } = group;
+    let mut list = vec![7; *list_len];
+    let answer = fast::group::settle_group::<RECIPROCAL>(buffer, buildings, *shared_wh, &mut list);
+    (answer, list)
+}
+
+#[test]
+fn groups() {
+    let mut rng = Rng::new(36);
+    let mut answers = [0; 23];
+    for _ in 0..30_000 {
+        let group = random_group(&mut rng);
+        let Group {
+            buffer,
+            buildings,
+            shared_wh,
+            list_len,
+        } = &group;
+        let expected = match group::settle_group(buffer, buildings, *shared_wh, *list_len) {
+            Ok(numbers) => (Ok(()), numbers),
+            Err(refusal) => (Err(refusal), vec![7; *list_len]),
+        };
+        assert_eq!(fast_group::<true>(&group), expected, "{group:?}");
+        assert_eq!(fast_group::<false>(&group), expected, "{group:?}");
+        answers[expected.0.err().map_or(0, |refusal| refusal.number) as usize] += 1;
+    }
+    for number in (0..=13).chain(20..=22) {
+        assert!(answers[number] > 100, "few answers {number}: {answers:?}");
+    }
+}
+
 #[test]
 fn divisions() {
     let mut rng = Rng::new(34);
@@ -158,6 +198,13 @@ fn divisions() {
         let total = rng.edge(0, 4_000_000_000);
         let expected = apportion::apportion(total, &weights);
         let (mut rest, mut shares) = (vec![0; count], vec![0; count]);
+        fast::dividing::divide::<true>(total, &weights, &mut rest, &mut shares);
+        assert_eq!(shares, expected);
+        fast::dividing::divide::<false>(total, &weights, &mut rest, &mut shares);
+        assert_eq!(shares, expected);
+        let total = rng.edge(0, 48_000_000_000);
+        let expected = apportion::wide_shares(total, &weights);
+        let mut shares = vec![0u64; count];
         fast::dividing::divide::<true>(total, &weights, &mut rest, &mut shares);
         assert_eq!(shares, expected);
         fast::dividing::divide::<false>(total, &weights, &mut rest, &mut shares);

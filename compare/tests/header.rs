@@ -3,7 +3,9 @@
 //! numbers and lengths.
 
 use compare::book::{BOOK_LEN, SUMS_LEN};
+use compare::group::{Building, MAX_BUILDINGS};
 use compare::sheet::MAX_UNITS;
+use std::mem::{offset_of, size_of};
 
 const HEADER: &str = include_str!("../../include/heatcost.h");
 const CALLS: &str = include_str!("../library/src/calls.rs");
@@ -53,6 +55,7 @@ fn rust_type(c: &str) -> &'static str {
         "const uint8_t *" => "*const u8",
         "const uint32_t *" => "*const u32",
         "const uint64_t *" => "*const u64",
+        "const heatcost_building *" => "*const Building",
         "uint8_t *" => "*mut u8",
         "uint32_t *" => "*mut u32",
         "uint64_t *" => "*mut u64",
@@ -115,6 +118,7 @@ fn lengths_and_stack_are_the_programs() {
     assert_eq!(defined("HEATCOST_BOOK_LEN"), BOOK_LEN);
     assert_eq!(defined("HEATCOST_SUMS_LEN"), SUMS_LEN);
     assert_eq!(defined("HEATCOST_MAX_UNITS"), MAX_UNITS);
+    assert_eq!(defined("HEATCOST_MAX_BUILDINGS"), MAX_BUILDINGS);
     assert_eq!(defined("HEATCOST_TOTALS_LEN"), 9);
     let promised = format!(
         "const PROMISED: usize = {}_{:03};",
@@ -122,6 +126,18 @@ fn lengths_and_stack_are_the_programs() {
         defined("HEATCOST_STACK") % 1000
     );
     assert!(STACK.contains(&promised), "{promised}");
+}
+
+#[test]
+fn a_building_is_the_programs() {
+    let declared = "typedef struct heatcost_building {\n    \
+        uint64_t offset;\n    \
+        uint64_t length;\n\
+        } heatcost_building;";
+    assert!(HEADER.contains(declared), "{declared}");
+    assert_eq!(size_of::<Building>(), 16);
+    assert_eq!(offset_of!(Building, offset), 0);
+    assert_eq!(offset_of!(Building, length), 8);
 }
 
 /// `TooShort` as `TOO_SHORT`.
@@ -152,7 +168,7 @@ fn refusals() -> Vec<(usize, String, &'static str)> {
 fn numbers_names_and_texts_are_those_of_the_format() {
     let refusals = refusals();
     let numbers: Vec<usize> = refusals.iter().map(|refusal| refusal.0).collect();
-    assert_eq!(numbers, (1..=20).collect::<Vec<usize>>());
+    assert_eq!(numbers, (1..=22).collect::<Vec<usize>>());
     let mut members = vec!["HEATCOST_ACCEPTED = 0".to_string()];
     let mut cases = vec!["case HEATCOST_ACCEPTED: return \"accepted\";".to_string()];
     for (number, name, means) in refusals {

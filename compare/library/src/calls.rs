@@ -1,9 +1,13 @@
 //! The library's calls, each behind a safe function. `tests/header.rs` of the
 //! crate above holds these declarations to include/heatcost.h.
 
+use compare::group::Building;
+
 #[rustfmt::skip]
 extern "C" {
     fn heatcost_settle(sheet: *const u8, sheet_len: usize, statement: *mut u32, statement_len: usize) -> u32;
+    fn heatcost_settle_group(sheets: *const u8, sheets_len: usize, buildings: *const Building, buildings_len: usize,
+        shared_wh: u64, statement: *mut u32, statement_len: usize) -> u32;
     fn heatcost_print(sheet: *const u8, sheet_len: usize, text: *mut u8, text_len: usize) -> u64;
     fn heatcost_write_record(sheet: *const u8, sheet_len: usize, record: *mut u8, record_len: usize) -> u32;
     fn heatcost_read_record(record: *const u8, record_len: usize) -> u32;
@@ -29,6 +33,25 @@ extern "C" {
 
 pub fn settle(sheet: &[u8], list: &mut [u32]) -> u32 {
     unsafe { heatcost_settle(sheet.as_ptr(), sheet.len(), list.as_mut_ptr(), list.len()) }
+}
+
+pub fn settle_group(
+    sheets: &[u8],
+    buildings: &[Building],
+    shared_wh: u64,
+    list: &mut [u32],
+) -> u32 {
+    unsafe {
+        heatcost_settle_group(
+            sheets.as_ptr(),
+            sheets.len(),
+            buildings.as_ptr(),
+            buildings.len(),
+            shared_wh,
+            list.as_mut_ptr(),
+            list.len(),
+        )
+    }
 }
 
 pub fn print(sheet: &[u8], list: &mut [u8]) -> u64 {

@@ -1,8 +1,9 @@
-//! One round: settle, write and read, sometimes a book, and print.
+//! One round: settle, write and read, sometimes a book or a group, and print.
 
 use crate::books::compare_book;
 use crate::calls;
 use crate::difference::{same, Compared};
+use crate::groups::compare_group;
 use crate::inputs::{list_len, random_bytes, record_to_read, unit_count};
 use crate::side::Side;
 use crate::tally::Tally;
@@ -12,6 +13,8 @@ use compare::rng::Rng;
 /// A book has some sixty calls of its own, so that it comes once in so many
 /// rounds.
 const ROUNDS_A_BOOK: u64 = 125;
+/// A group has some four sheets.
+const ROUNDS_A_GROUP: u64 = 6;
 
 /// The rounds have numbers of their own, so that each can be run alone.
 pub fn compare_round(side: &Side, seed: u64, round: u64, tally: &mut Tally) -> Compared<()> {
@@ -23,6 +26,9 @@ pub fn compare_round(side: &Side, seed: u64, round: u64, tally: &mut Tally) -> C
     compare_read(side, &record, tally)?;
     if round.is_multiple_of(ROUNDS_A_BOOK) {
         compare_book(side, &mut rng, tally)?;
+    }
+    if round.is_multiple_of(ROUNDS_A_GROUP) {
+        compare_group(side, &mut rng, tally)?;
     }
     compare_print(side, &mut rng, &sheet)
 }

@@ -15,6 +15,7 @@ mod books;
 mod calls;
 mod comparing;
 mod difference;
+mod groups;
 mod inputs;
 mod mutants;
 mod repeat;

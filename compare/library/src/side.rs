@@ -1,10 +1,12 @@
 //! The independent side of a comparison.
 
+use compare::group::Building;
 use compare::refusal::Refusal;
 
 /// Its calls, each as the library's (calls.rs).
 pub struct Side {
     pub settle: fn(&[u8], &mut [u32]) -> u32,
+    pub settle_group: fn(&[u8], &[Building], u64, &mut [u32]) -> u32,
     pub print: fn(&[u8], &mut [u8]) -> u64,
     pub write_record: fn(&[u8], &mut [u8]) -> u32,
     /// The answer and the length of the sheet's part.
@@ -32,7 +34,7 @@ pub fn answer<T>(result: &Result<T, Refusal>) -> u32 {
 /// The side that a crate with the plain form's modules makes.
 macro_rules! side {
     ($form:ident) => {{
-        use $form::{book, print, record, refusal::Refusal, settle};
+        use $form::{book, group, print, record, refusal::Refusal, settle};
 
         fn answer(result: Result<(), Refusal>) -> u32 {
             result.map_or_else(|refusal| number(refusal.number, refusal.place), |()| 0)
@@ -44,8 +46,25 @@ macro_rules! side {
             Ok(())
         }
 
+        fn settle_group(
+            sheets: &[u8],
+            buildings: &[Building],
+            shared_wh: u64,
+            list: &mut [u32],
+        ) -> u32 {
+            let building = |b: &Building| group::Building {
+                offset: b.offset,
+                length: b.length,
+            };
+            let buildings: Vec<group::Building> = buildings.iter().map(building).collect();
+            answer(group::settle_group_into(
+                sheets, &buildings, shared_wh, list,
+            ))
+        }
+
         Side {
             settle: |sheet, list| answer(settle_into(sheet, list)),
+            settle_group,
             print: |sheet, list| print::print_into(sheet, list) as u64,
             write_record: |sheet, list| answer(record::write_record(sheet, list)),
             read_record: |bytes| {

@@ -1,6 +1,6 @@
 //! The stack that each call needs, measured on a painted stack of its own.
 
-use crate::bench::settled_sheets;
+use crate::bench::{buildings_of, group_sheets, settled_sheets};
 use crate::calls;
 use compare::book::{BOOK_LEN, SUMS_LEN};
 use std::arch::asm;
@@ -57,11 +57,27 @@ pub fn measure() -> bool {
     let mut text = vec![0; 49 + 99 * 160];
     let mut bytes = vec![0; 56 + 64 * 160];
     let (mut book, mut sums) = (vec![0; BOOK_LEN], vec![0; SUMS_LEN]);
+    let groups: Vec<Vec<u8>> = [1, 2, 8, 100, 160]
+        .map(|n| group_sheets(1, n).concat())
+        .into();
+    let mut statements = vec![0; 12 * 1280];
     let needs = [
         (
             "settle",
             most(&sheets, |s| {
                 drop_answer(calls::settle(s, &mut list[..(s.len() - 48) / 4]))
+            }),
+        ),
+        (
+            "settle_group",
+            most(&groups, |s| {
+                let list = &mut statements[..(s.len() - 12 * 48) / 4];
+                drop_answer(calls::settle_group(
+                    s,
+                    &buildings_of(s),
+                    4_000_000_000,
+                    list,
+                ))
             }),
         ),
         (

@@ -3,15 +3,16 @@
 
 use crate::ways::Way;
 
-pub const CALLS: [&str; 8] = [
-    "settle", "write", "read", "open", "post", "replace", "withdraw", "year",
+pub const CALLS: [&str; 9] = [
+    "settle", "write", "read", "open", "post", "replace", "withdraw", "year", "group",
 ];
 /// The numbers of answers, 0 for accepted.
-const NUMBERS: usize = 21;
-/// A refusal seen less often than this in a million rounds is a gap.
+const NUMBERS: usize = 23;
+/// Those of the group call.
+const GROUP_NUMBERS: [usize; 17] = [0, 1, 2, 3, 4, 5, 6, 7, 8, 9, 10, 11, 12, 13, 20, 21, 22];
+/// A refusal seen less often than this in a million rounds is a gap; in groups
+/// it is looked for by itself.
 const SELDOM: u64 = 1_000;
-/// The same for a way in a call that has it.
-const SELDOM_WAY: u64 = 100;
 
 pub struct Tally {
     seen: [[u64; CALLS.len()]; NUMBERS],
@@ -65,9 +66,14 @@ impl Tally {
         let total = |number: &usize| self.seen[*number].iter().sum::<u64>();
         let numbers = (0..self.seen.len()).filter(|number| total(number) < SELDOM);
         let mut seldom: Vec<String> = numbers.map(|number| number.to_string()).collect();
+        let in_groups = |number: &usize| self.seen[*number][column("group")];
+        let numbers = GROUP_NUMBERS
+            .iter()
+            .filter(|number| in_groups(number) < SELDOM);
+        seldom.extend(numbers.map(|number| format!("{number} in group")));
         for (way, row) in &self.ways {
             for call in way.calls() {
-                if row[column(call)] < SELDOM_WAY {
+                if row[column(call)] < way.seldom() {
                     seldom.push(format!("{} in {call}", way.name()));
                 }
             }

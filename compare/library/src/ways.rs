@@ -1,10 +1,14 @@
-//! The ways to refusals that have several: 4 by its byte and 20 by what clashes
-//! (request 2026-03), 19 by what is wrong with the sums (request 2026-02).
+//! The ways to answers that have several: 4 by its byte and 20 by what clashes
+//! (request 2026-03), 19 by what is wrong with the sums (request 2026-02), 22 by
+//! what is wrong with the group, and an accepted group by its difference
+//! (request 2026-04).
 
 use compare::book::SUMS_LEN;
+use compare::group::{difference, MAX_BUILDINGS};
+use compare::groups::{takes_all, Group};
 use compare::ranges::Range;
-use compare::refusal::{FIELD_CONFLICT, HEADER_FIELD};
-use compare::sheet::{read_sheet, row_fields};
+use compare::refusal::{BAD_GROUP, FIELD_CONFLICT, HEADER_FIELD};
+use compare::sheet::{read_sheet, row_fields, Sheet, MAX_WH};
 
 #[derive(Clone, Copy, PartialEq)]
 pub enum Way {
@@ -15,7 +19,31 @@ pub enum Way {
     /// Below zero, and only the new block would lift it again.
     Lifted,
     Past,
+    GroupCount,
+    GroupReading,
+    GroupOutside,
+    GroupMonth,
+    GroupPrice,
+    NoDifference,
+    Surplus,
+    Deficit,
+    DeficitPast32Bits,
+    /// A common heat goes to 0.
+    TakesAll,
 }
+
+const OF_GROUPS: [Way; 10] = [
+    Way::GroupCount,
+    Way::GroupReading,
+    Way::GroupOutside,
+    Way::GroupMonth,
+    Way::GroupPrice,
+    Way::NoDifference,
+    Way::Surplus,
+    Way::Deficit,
+    Way::DeficitPast32Bits,
+    Way::TakesAll,
+];
 
 impl Way {
     pub fn all() -> Vec<Way> {
@@ -25,6 +53,7 @@ impl Way {
         let mut ways = bytes.map(Way::Header).to_vec();
         ways.extend(Range::CLASHES.map(Way::Clash));
         ways.extend([Way::Length, Way::Below, Way::Lifted, Way::Past]);
+        ways.extend(OF_GROUPS);
         ways
     }
 
@@ -36,19 +65,89 @@ impl Way {
             Way::Below => "19 below zero".to_string(),
             Way::Lifted => "19 lifted again".to_string(),
             Way::Past => "19 past 64 bits".to_string(),
+            Way::GroupCount => "22 count".to_string(),
+            Way::GroupReading => "22 shared reading".to_string(),
+            Way::GroupOutside => "22 outside the buffer".to_string(),
+            Way::GroupMonth => "22 month".to_string(),
+            Way::GroupPrice => "22 price".to_string(),
+            Way::NoDifference => "0 no difference".to_string(),
+            Way::Surplus => "0 difference above 0".to_string(),
+            Way::Deficit => "0 difference below 0".to_string(),
+            Way::DeficitPast32Bits => "0 below, past 32 bits".to_string(),
+            Way::TakesAll => "0 common heat to 0".to_string(),
         }
     }
 
-    /// The calls that may be refused this way.
+    /// A way seen less often than this in a million rounds, in a call that has
+    /// it, is a gap.
+    pub fn seldom(self) -> u64 {
+        if OF_GROUPS.contains(&self) {
+            1_000
+        } else {
+            100
+        }
+    }
+
+    /// The calls that may be answered this way.
     pub fn calls(self) -> &'static [&'static str] {
         match self {
-            Way::Header(_) | Way::Clash(_) => {
-                &["settle", "write", "read", "open", "post", "replace"]
-            }
+            Way::Header(_) | Way::Clash(_) => &[
+                "settle", "write", "read", "open", "post", "replace", "group",
+            ],
             Way::Length => &["open", "post", "replace", "withdraw", "year"],
             Way::Below => &["replace", "withdraw"],
             Way::Lifted => &["replace"],
             Way::Past => &["post", "replace"],
+            _ => &["group"],
+        }
+    }
+
+    /// The ways of a group call that 22 refused or that was accepted.
+    pub fn of_group(answer: u32, group: &Group) -> Vec<Way> {
+        match answer {
+            0 => Way::of_difference(&sheets_of(group), group.shared_wh),
+            BAD_GROUP => vec![Way::of_bad_group(group)],
+            _ => Vec::new(),
+        }
+    }
+
+    fn of_difference(sheets: &[Sheet], shared_wh: u64) -> Vec<Way> {
+        let difference = difference(sheets, shared_wh);
+        let mut ways = match difference {
+            0 => vec![Way::NoDifference],
+            1.. => vec![Way::Surplus],
+            _ => vec![Way::Deficit],
+        };
+        if difference < -i64::from(u32::MAX) {
+            ways.push(Way::DeficitPast32Bits);
+        }
+        if takes_all(sheets, shared_wh) {
+            ways.push(Way::TakesAll);
+        }
+        ways
+    }
+
+    fn of_bad_group(group: &Group) -> Way {
+        let end = group.buffer.len() as u64;
+        let mut ends = group
+            .buildings
+            .iter()
+            .map(|b| b.offset.checked_add(b.length));
+        if !(1..=MAX_BUILDINGS).contains(&group.buildings.len()) {
+            return Way::GroupCount;
+        }
+        if group.shared_wh > u64::from(MAX_WH) {
+            return Way::GroupReading;
+        }
+        if ends.any(|sheet_end| sheet_end.is_none_or(|sheet_end| sheet_end > end)) {
+            return Way::GroupOutside;
+        }
+        let sheets = sheets_of(group);
+        let month = sheets[0].header.month;
+        if sheets.iter().all(|sheet| sheet.header.month == month) {
+            Way::GroupPrice
+        } else {
+            Way::GroupMonth
         }
     }
 
@@ -86,4 +185,11 @@ impl Way {
             Way::Below
         }
     }
+}
+
+/// The sheets of a group whose buildings pass their own refusals.
+fn sheets_of(group: &Group) -> Vec<Sheet> {
+    let bytes = |offset: u64| &group.buffer[offset as usize..];
+    let buildings = group.buildings.iter();
+    buildings.map(|b| read_sheet(bytes(b.offset))).collect()
 }

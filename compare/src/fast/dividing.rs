@@ -1,5 +1,29 @@
 //! "Dividing" with 128-bit products.
 
+/// A share's type: 64 bits where the total has more than 32.
+pub trait Share: Copy {
+    fn new(share: u64) -> Self;
+    fn get(self) -> u64;
+}
+
+impl Share for u32 {
+    fn new(share: u64) -> u32 {
+        share as u32
+    }
+    fn get(self) -> u64 {
+        self.into()
+    }
+}
+
+impl Share for u64 {
+    fn new(share: u64) -> u64 {
+        share
+    }
+    fn get(self) -> u64 {
+        self
+    }
+}
+
 /// Quotient and remainder of T × w / W for one T and W.
 ///
 /// With `RECIPROCAL` there is one division for all items: 2^64 × T / W is
@@ -50,18 +74,18 @@ pub fn divide<const RECIPROCAL: bool>(
     total: u64,
     weights: &[u64],
     remainders: &mut [u64],
-    shares: &mut [u32],
+    shares: &mut [impl Share],
 ) {
     let weight_sum: u64 = weights.iter().sum();
     if weight_sum == 0 || total == 0 {
-        shares.fill(0);
+        shares.fill(Share::new(0));
         return;
     }
     let divider = Divider::<RECIPROCAL>::new(total, weight_sum);
     let mut leftover = total;
     for ((&weight, remainder), share) in weights.iter().zip(&mut *remainders).zip(&mut *shares) {
         let (quotient, rest) = divider.divide(weight);
-        *share = quotient as u32;
+        *share = Share::new(quotient);
         *remainder = rest;
         leftover -= quotient;
     }
@@ -78,7 +102,7 @@ fn give<const RECIPROCAL: bool>(
     divider: Divider<RECIPROCAL>,
     weights: &[u64],
     remainders: &mut [u64],
-    shares: &mut [u32],
+    shares: &mut [impl Share],
 ) {
     let (larger, &mut threshold, _) =
         remainders.select_nth_unstable_by(leftover - 1, |a, b| b.cmp(a));
@@ -86,9 +110,9 @@ fn give<const RECIPROCAL: bool>(
     let mut at_threshold = leftover - above;
     for (&weight, share) in weights.iter().zip(shares) {
         let product = divider.total.wrapping_mul(weight);
-        let rest = product.wrapping_sub(u64::from(*share).wrapping_mul(divider.weight_sum));
+        let rest = product.wrapping_sub(share.get().wrapping_mul(divider.weight_sum));
         let spared = rest == threshold && at_threshold > 0;
         at_threshold -= usize::from(spared);
-        *share += u32::from(rest > threshold || spared);
+        *share = Share::new(share.get() + u64::from(rest > threshold || spared));
     }
 }

@@ -4,6 +4,7 @@
 
 pub mod book;
 pub mod dividing;
+pub mod group;
 pub mod header;
 pub mod month;
 pub mod print;

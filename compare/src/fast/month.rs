@@ -62,24 +62,44 @@ impl<'a> Month<'a> {
         self.header.model == 5 && self.sums.read_units == self.rows.len() as u64
     }
 
+    pub fn area(&self) -> u64 {
+        self.sums.area
+    }
+
     pub fn bill_cents(&self) -> u64 {
-        (self.header.shared_meter_wh * self.header.price + 500_000) / 1_000_000
+        bill_cents(self.header.shared_meter_wh, self.header.price)
     }
 
     /// Writes the 8n numbers.
     pub fn write_statement<const RECIPROCAL: bool>(&self, statement: &mut [u32]) {
+        let (_, common_heat) = self.heat();
+        self.write::<RECIPROCAL>(common_heat, self.bill_cents(), statement);
+    }
+
+    /// Writes the 8n numbers by a common heat and a bill.
+    pub fn write<const RECIPROCAL: bool>(
+        &self,
+        common_heat: u64,
+        bill_cents: u64,
+        statement: &mut [u32],
+    ) {
         if self.rows.len() <= 16 {
-            self.write_sized::<16, RECIPROCAL>(statement);
+            self.write_sized::<16, RECIPROCAL>(common_heat, bill_cents, statement);
         } else {
-            self.write_sized::<160, RECIPROCAL>(statement);
+            self.write_sized::<160, RECIPROCAL>(common_heat, bill_cents, statement);
         }
     }
 
     /// With room for `N` units.
-    fn write_sized<const N: usize, const RECIPROCAL: bool>(&self, statement: &mut [u32]) {
+    fn write_sized<const N: usize, const RECIPROCAL: bool>(
+        &self,
+        common_heat: u64,
+        bill_cents: u64,
+        statement: &mut [u32],
+    ) {
         let count = self.rows.len();
         let mut energies = Columns::<N>::new();
-        self.energies::<N, RECIPROCAL>(&mut energies);
+        self.energies::<N, RECIPROCAL>(common_heat, &mut energies);
 
         let mut weights = [[0u64; 4]; N];
         for (i, weight) in weights[..count].iter_mut().enumerate() {
@@ -88,7 +108,7 @@ impl<'a> Month<'a> {
         let mut remainders = [[0u64; 4]; N];
         let mut cents = [[0u32; 4]; N];
         divide::<RECIPROCAL>(
-            self.bill_cents(),
+            bill_cents,
             weights[..count].as_flattened(),
             remainders[..count].as_flattened_mut(),
             cents[..count].as_flattened_mut(),
@@ -101,24 +121,33 @@ impl<'a> Month<'a> {
         }
     }
 
-    /// Steps 2 to 6.
-    fn energies<const N: usize, const RECIPROCAL: bool>(&self, columns: &mut Columns<N>) {
+    /// Step 2: the units' heat and the common heat.
+    pub fn heat(&self) -> (u64, u64) {
+        let space_heat = self.header.shared_meter_wh - self.hot_water_wh;
+        if self.all_metered() {
+            return (self.sums.readings, space_heat - self.sums.readings);
+        }
+        split(space_heat, self.header.common_heat_percent)
+    }
+
+    /// Steps 3 to 6.
+    fn energies<const N: usize, const RECIPROCAL: bool>(
+        &self,
+        common_heat: u64,
+        columns: &mut Columns<N>,
+    ) {
         let header = &self.header;
-        let space_heat = header.shared_meter_wh - self.hot_water_wh;
-        let common_heat = if self.all_metered() {
-            for (share, row) in columns.shares[0].iter_mut().zip(self.rows) {
-                *share = Row(row).reading() as u32;
+        let (units, _) = self.heat();
+        match header.model {
+            1 => columns.divide::<RECIPROCAL>(0, units, self.rows, Row::heat_load),
+            2 => columns.divide::<RECIPROCAL>(0, units, self.rows, Row::heated_area),
+            _ if self.all_metered() => {
+                for (share, row) in columns.shares[0].iter_mut().zip(self.rows) {
+                    *share = Row(row).reading() as u32;
+                }
             }
-            space_heat - self.sums.readings
-        } else {
-            let (units, common) = split(space_heat, header.common_heat_percent);
-            match header.model {
-                1 => columns.divide::<RECIPROCAL>(0, units, self.rows, Row::heat_load),
-                2 => columns.divide::<RECIPROCAL>(0, units, self.rows, Row::heated_area),
-                _ => self.metered_heat::<N, RECIPROCAL>(units, columns),
-            }
-            common
-        };
+            _ => self.metered_heat::<N, RECIPROCAL>(units, columns),
+        }
         columns.divide::<RECIPROCAL>(1, common_heat, self.rows, Row::heated_area);
         if self.hot_water_wh == 0 {
             return;
@@ -258,6 +287,11 @@ impl<const N: usize> Columns<N> {
             &mut shares[..count],
         );
     }
+}
+
+/// M × price / 1,000,000, half up.
+pub fn bill_cents(shared_meter_wh: u64, price: u64) -> u64 {
+    (shared_meter_wh * price + 500_000) / 1_000_000
 }
 
 /// Divided by (100 − percent, percent): of two remainders the larger gets the

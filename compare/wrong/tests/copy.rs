@@ -5,6 +5,7 @@ use compare::calls::{random_call, sheet_of_building, Call};
 use compare::damage::damaged_sheet;
 use compare::edges::{border_sheet, sheet_at_an_end};
 use compare::faults::faulty_sheet;
+use compare::groups::random_group;
 use compare::record::{head, record_of};
 use compare::rng::Rng;
 use compare::rules::RuleSet;
@@ -67,6 +68,31 @@ fn sheets_texts_and_records() {
             wrong::record::read_record(&plain),
             compare::record::read_record(&plain),
         );
+    }
+}
+
+#[test]
+fn groups() {
+    let mut rng = Rng::new(3);
+    for _ in 0..4_000 {
+        let group = random_group(&mut rng);
+        let named = group.buildings.iter().map(|b| wrong::group::Building {
+            offset: b.offset,
+            length: b.length,
+        });
+        let named: Vec<_> = named.collect();
+        let mut copy = vec![9; group.list_len];
+        let mut plain = copy.clone();
+        same(
+            wrong::group::settle_group_into(&group.buffer, &named, group.shared_wh, &mut copy),
+            compare::group::settle_group_into(
+                &group.buffer,
+                &group.buildings,
+                group.shared_wh,
+                &mut plain,
+            ),
+        );
+        assert_eq!(copy, plain);
     }
 }
 

@@ -8,10 +8,12 @@ mod books;
 mod cases;
 #[cfg(feature = "division")]
 mod divisions;
+mod groups;
 mod lists;
 mod settling;
 
 pub use cases::settled_sheets;
+pub use groups::{buildings_of, group_sheets};
 
 use std::time::{Duration, Instant};
 
@@ -76,6 +78,7 @@ fn best_times<const N: usize>(sides: &mut [Side; N], turns: usize, turn: Duratio
 pub fn run(seed: u64) {
     println!("nanoseconds, best of {TURNS}");
     settling::run(seed);
+    groups::run(seed);
     lists::run(seed);
     #[cfg(feature = "division")]
     divisions::run(seed);

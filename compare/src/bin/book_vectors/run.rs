@@ -3,11 +3,10 @@
 use compare::book::{self, YearSums, BOOK_LEN, SUMS_LEN};
 use compare::calls::Call;
 use compare::refusal::Refusal;
-use compare::vectors::pack;
+use compare::vectors::{digest, pack};
 
 /// One more than a call may be lent.
 const ROOM: usize = SUMS_LEN + 1;
-const PRIME: u64 = 1_000_000_007;
 
 /// The lists as the calls leave them, how many of the sums are lent, and both
 /// files.
@@ -107,11 +106,6 @@ impl Run {
             Call::Year(place) => self.year(*place),
         }
     }
-}
-
-/// A list as one number.
-fn digest(numbers: impl Iterator<Item = u64>) -> u64 {
-    numbers.fold(0, |sum, number| (31 * sum + number % PRIME) % PRIME)
 }
 
 fn answer_words<T>(answer: &Result<T, Refusal>) -> String {

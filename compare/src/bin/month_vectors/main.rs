@@ -11,7 +11,7 @@ use compare::rules::NEWEST;
 use compare::samples::{good_sheet, random_ids, random_sheet_of};
 use compare::settle::{settle, settle_sheet};
 use compare::sheet::{build_sheet, Sheet, Unit, MAX_WH};
-use compare::vectors::{pack, write_files};
+use compare::vectors::{digest, pack, write_files};
 
 /// The list of sheets under construction.
 struct Sheets(Vec<Vec<u8>>);
@@ -180,9 +180,7 @@ fn list_line(bytes: &[u8], len: usize) -> String {
         Ok(outcome) => (0, 0, outcome.numbers),
         Err(refusal) => (refusal.number, refusal.place, vec![9; len]),
     };
-    let digest = list.iter().fold(0u64, |sum, number| {
-        (31 * sum + u64::from(*number)) % 1_000_000_007
-    });
+    let digest = digest(list.into_iter().map(u64::from));
     format!("list {len} {number} {place} {digest}\n")
 }
 

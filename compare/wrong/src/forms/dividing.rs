@@ -3,7 +3,7 @@
 use crate::{current, Reading::*};
 
 /// Shares of a division without a leftover.
-pub fn shares(total: u64, weights: &[u64], weight_sum: u128) -> Option<Vec<u32>> {
+pub fn shares(total: u64, weights: &[u64], weight_sum: u128) -> Option<Vec<u64>> {
     let share: fn(u64, u64, u128) -> u128 = match current()? {
         EachShareHalfUp => half_up_share,
         ProductIn64Bits => |total, weight, sum| u128::from(total.wrapping_mul(weight)) / sum,
@@ -11,7 +11,7 @@ pub fn shares(total: u64, weights: &[u64], weight_sum: u128) -> Option<Vec<u32>>
     };
     let shares = weights
         .iter()
-        .map(|&weight| share(total, weight, weight_sum) as u32);
+        .map(|&weight| u64::from(share(total, weight, weight_sum) as u32));
     Some(shares.collect())
 }
 

@@ -3,7 +3,10 @@
 
 pub mod bill;
 pub mod book;
+pub mod difference;
 pub mod dividing;
+pub mod group;
+pub mod group_bill;
 pub mod header;
 pub mod heat;
 pub mod print;
