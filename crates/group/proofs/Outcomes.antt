@@ -11,14 +11,14 @@ use Rattle.sheet.specs.declared.refusal.Refusal.the-variants.{BufferLength, Neg
 use Rattle.sheet.specs.declared.refusal.Outcome.{Outcome}
 use Rattle.sheet.specs.declared.refusal.Outcome.the-variants.{Accepted, Refused}
 use Rattle.sheet.specs.declared.rule_set.RuleSet.{RuleSet}
-use Rattle.sheet.specs.Refusals.{_⇒_, firstRefusal}
+use Rattle.sheet.specs.Refusals.{_⇒_, firstRefusal, afterwards}
 use Rattle.sheet.specs.Layout.{Sheet}
 use Rattle.sheet.proofs.Passed.{none-holds}
 use Rattle.sheet.proofs.Rules.{orElse, first-of-both}
 use Rattle.group.specs.declared.buildings.Building.{Building}
 use Rattle.group.specs.declared.answer.GroupAnswer.{GroupAnswer}
 use Rattle.group.specs.Group.{Group, groupUnits, commonHeatBelowZero, groupStatement}
-use Rattle.group.specs.Answer.{partsOf, groupOf, badGroup, Stage, refusalOr, firstIn, ownStages, unlike, groupStages, groupAnswer, unless, groupAfter}
+use Rattle.group.specs.Answer.{partsOf, groupOf, badGroup, Stage, refusalOr, firstIn, ownStages, unlike, groupStages, groupAnswer, groupAfter}
 use Rattle.group.specs.Inner.Figures.{listAnswer, lastAnswer}
 
 -- ---- 22 again, 13, 21
@@ -92,12 +92,12 @@ module _ (rules : RuleSet) (buffer : List ℕ) (bs : List Building) (reading : �
       (first-in-both (ownStages 0 (partsOf buffer bs)) _ ∙ ap (λ (o : Outcome). refusalOr (own .building) (own .outcome) (refusalOr 0 o (ofAll Accepted))) (first-of-both (_ ∷ _ ∷ []) (_ ∷ [])))
 
   -- the list afterwards follows from the answer
-  answered : (a : GroupAnswer) → a ≡ groupAnswer rules buffer bs reading list → Is a (unless (a .outcome) list (groupStatement rules g))
+  answered : (a : GroupAnswer) → a ≡ groupAnswer rules buffer bs reading list → Is a (afterwards (a .outcome) list (groupStatement rules g))
   unfolding groupAfter
-  answered a e = (e, ap (λ (b : GroupAnswer). unless (b .outcome) list (groupStatement rules g)) e)
+  answered a e = (e, ap (λ (b : GroupAnswer). afterwards (b .outcome) list (groupStatement rules g)) e)
 
   kept : (a : GroupAnswer) (q : Refusal) → a .outcome ≡ Refused q → a ≡ groupAnswer rules buffer bs reading list → Is a list
-  kept a q e is = (is, sym (ap (λ (o : Outcome). unless o list (groupStatement rules g)) e) ∙ answered a is .1)
+  kept a q e is = (is, sym (ap (λ (o : Outcome). afterwards o list (groupStatement rules g)) e) ∙ answered a is .1)
 
   pub bad : badGroup buffer bs reading ≡ true → Is (ofAll (Refused BadGroup)) list
   unfolding firstRefusal
@@ -121,7 +121,7 @@ module _ (rules : RuleSet) (buffer : List ℕ) (bs : List Building) (reading : �
       pub list-refused : (o : Outcome) (q : Refusal) → o ≡ lists → o ≡ Refused q → Is (ofAll o) list
       list-refused o q is e = kept (ofAll o) q e (ap ofAll e ∙ sym (past-own ∙ ap (λ (l : Outcome). refusalOr 0 (orElse l last) (ofAll Accepted)) (sym is ∙ e)))
 
-      pub settled : lists ≡ Accepted → (o : Outcome) → o ≡ last → Is (ofAll o) (unless o list (groupStatement rules g))
+      pub settled : lists ≡ Accepted → (o : Outcome) → o ≡ last → Is (ofAll o) (afterwards o list (groupStatement rules g))
       settled fits o is = answered (ofAll o) (sym (past-own ∙ ap (λ (l : Outcome). refusalOr 0 (orElse l last) (ofAll Accepted)) fits ∙ ap (λ (l : Outcome). refusalOr 0 l (ofAll Accepted)) (sym is) ∙ whole o))
         where
           whole : (o : Outcome) → refusalOr 0 o (ofAll Accepted) ≡ ofAll o

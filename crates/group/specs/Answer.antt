@@ -10,7 +10,7 @@ use Rattle.sheet.specs.declared.refusal.Refusal.the-variants.{BufferLength, Neg
 use Rattle.sheet.specs.declared.refusal.Outcome.{Outcome}
 use Rattle.sheet.specs.declared.refusal.Outcome.the-variants.{Accepted, Refused}
 use Rattle.sheet.specs.declared.rule_set.RuleSet.{RuleSet}
-use Rattle.sheet.specs.Refusals.{Rule, _⇒_, firstRefusal, placeOf}
+use Rattle.sheet.specs.Refusals.{Rule, _⇒_, firstRefusal, placeOf, afterwards}
 use Rattle.sheet.specs.Layout.{Sheet, sheetOf}
 use Rattle.month.specs.Month.{settleRules}
 use Rattle.group.specs.declared.buildings.Building.{Building}
@@ -95,9 +95,5 @@ abbrev pub placeIn : GroupAnswer → Refusal → ℕ
 placeIn a r = placeOf r + 160 * a .building
 
 -- ---- the list afterwards: the statements; refused, it keeps its contents
-abbrev pub unless : Outcome → List ℕ → List ℕ → List ℕ
-unless Accepted list written = written
-unless (Refused r) list written = list
-
 unfoldable pub groupAfter : RuleSet → List ℕ → List Building → ℕ → List ℕ → List ℕ
-groupAfter rules buffer bs reading list = unless (groupAnswer rules buffer bs reading list .outcome) list (groupStatement rules (groupOf (partsOf buffer bs) reading))
+groupAfter rules buffer bs reading list = afterwards (groupAnswer rules buffer bs reading list .outcome) list (groupStatement rules (groupOf (partsOf buffer bs) reading))

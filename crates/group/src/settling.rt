@@ -1,10 +1,11 @@
 // A group settled.
 ghost use mathlib.Core.Path.{_≡_};
 ghost use mathlib.Core.List.{List};
+ghost use Rattle.sheet.specs.Refusals.{afterwards};
 ghost use Rattle.sheet.specs.RuleSets.{newest};
 ghost use Rattle.group.specs.declared.buildings.Building.{Building};
 ghost use Rattle.group.specs.Group.{joined, groupStatement};
-ghost use Rattle.group.specs.Answer.{groupOf, groupAnswer, unless, groupAfter};
+ghost use Rattle.group.specs.Answer.{groupOf, groupAnswer, groupAfter};
 ghost use Rattle.group.specs.Inner.Spans.{SpansOf, partsIn, sheetsIn, Passed};
 ghost use Rattle.group.specs.Inner.Figures.{statementsOf, Charges, Adjusted, Settleable, listAnswer, lastAnswer};
 use crate::answer::GroupAnswer;
@@ -79,7 +80,7 @@ fn settle_surveyed(
 ) -> Outcome
     requires { ⌜ Settleable newest (now sheets) spans reading (now areas) (now commons) (now statement) ⌝ }
     ensures { λ r. ⌜ r ≡ lastAnswer newest (groupOf (partsIn (now (sheets .entry)) spans) reading) ⌝ }
-    ensures { λ r. ⌜ now (statement .exit) ≡ unless r (now (statement .entry)) (groupStatement newest (groupOf (partsIn (now (sheets .entry)) spans) reading)) ⌝ }
+    ensures { λ r. ⌜ now (statement .exit) ≡ afterwards r (now (statement .entry)) (groupStatement newest (groupOf (partsIn (now (sheets .entry)) spans) reading)) ⌝ }
 {
     let n = spans.count;
     let mut readings = [0u64; 12];

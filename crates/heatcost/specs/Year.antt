@@ -6,8 +6,8 @@ use lib.Dec.{eqb}
 use lib.ListN.{length}
 use Rattle.sheet.specs.declared.refusal.Refusal.the-variants.{BadYearBook, BufferLength}
 use Rattle.sheet.specs.declared.refusal.Outcome.{Outcome}
-use Rattle.sheet.specs.Refusals.{_⇒_, firstRefusal}
-use Rattle.yearbook.specs.LentBook.{Lent, badBook, afterwards, yearRules, marksIn, sumsAt}
+use Rattle.sheet.specs.Refusals.{_⇒_, firstRefusal, afterwards}
+use Rattle.yearbook.specs.LentBook.{Lent, badBook, yearRules, marksIn, sumsAt}
 
 -- 15 comes first in book calls; of 13, 18 and 19 the lowest number
 unfoldable pub yearListAnswer : Lent → (place : ℕ) (list : List ℕ) → Outcome

@@ -85,6 +85,10 @@ module _ (s : Sheet) where
   count-area [] h = omega arith
   count-area (u ∷ us) h = omega (arith, h .0 .heatedAreaLow, count-area us (h .1))
 
+  -- P is above 0
+  pub checked-area : CheckedSheet s → 0 < sumOf (λ u. u .heatedArea) (s .units)
+  checked-area c = omega (arith, count-area (s .units) (c .units), c .unit-count, c .header .unitCountLow)
+
 module _ (s : Sheet) (a : AcceptedSheet s) where
   -- ---- 9, taken apart
   -- step 3, model 1: by q
@@ -98,7 +102,7 @@ module _ (s : Sheet) (a : AcceptedSheet s) where
 
   -- ---- steps 3 and 5: by p, and with the pool
   pub area-positive : 0 < sum (map (λ u. u .heatedArea) (s .units))
-  area-positive = omega (arith, count-area s (s .units) (a .checked-sheet .units), a .checked-sheet .unit-count, a .checked-sheet .header .unitCountLow)
+  area-positive = checked-area s (a .checked-sheet)
 
   pub pool-positive : 0 < sum (unreadWeights s ++ poolWeight s ∷ [])
   unfolding poolWeight totalArea

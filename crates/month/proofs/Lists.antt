@@ -129,7 +129,7 @@ unfolding sumTo
 sumTo-front zero f = omega arith
 sumTo-front (suc k) f = omega (arith, sumTo-front k f)
 
-sumTo-list : (n : ℕ) (xs : List ℕ) → length xs ≡ n → sumTo n (λ i. getD xs i 0) ≡ sum xs
+pub sumTo-list : (n : ℕ) (xs : List ℕ) → length xs ≡ n → sumTo n (λ i. getD xs i 0) ≡ sum xs
 unfolding sumTo
 sumTo-list zero [] e = refl
 sumTo-list zero (x ∷ xs) e = absurd (omega arith)

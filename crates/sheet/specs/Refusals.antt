@@ -34,7 +34,7 @@ numberOf (FieldConflict i) = 20  -- clash (2026-03)
 numberOf NegativeCommonHeat = 21  -- difference (2026-04)
 numberOf BadGroup = 22  -- group (2026-04)
 
--- the place: the row from 0 for 6, 7 and 20; the header field's first byte in the sheet for 4 (2026-03); else 0
+-- the place: the row from 0 for 6, 7 and 20; the header field's first byte in the sheet for 4 (2026-03), 0 where 4 is about the call itself (2026-05); else 0
 abbrev pub placeOf : Refusal → ℕ
 placeOf TooShort = 0
 placeOf BadMagic = 0
@@ -69,3 +69,8 @@ unfoldable pub firstRefusal : List Rule → Outcome
 firstRefusal [] = Accepted
 firstRefusal ((true ⇒ r) ∷ rules) = Refused r
 firstRefusal ((false ⇒ r) ∷ rules) = firstRefusal rules
+
+-- what an answer leaves: a refused call keeps what it was lent
+abbrev pub afterwards : {A : Type 0} → Outcome → (before written : A) → A
+afterwards Accepted before written = written
+afterwards (Refused r) before written = before

@@ -9,6 +9,7 @@ mod totals;
 mod units;
 
 pub use basis::Basis;
+pub use fields::field;
 pub use fields::head;
 pub use fields::wide;
 pub use metered::all_metered;

@@ -9,11 +9,12 @@ use native.Mathlib.Decide.{ℕ-discrete}
 use lib.ListN.{length, getD, length-replicate}
 use Rattle.sheet.specs.declared.refusal.Outcome.{Outcome}
 use Rattle.sheet.specs.declared.refusal.Outcome.the-variants.{Accepted, Refused}
+use Rattle.sheet.specs.Refusals.{afterwards}
 use Rattle.month.specs.Laws.{sumTo}
 use Rattle.month.proofs.Lists.{sumTo-cong}
 use Rattle.yearbook.specs.Calls.{Call, post, replace, withdraw, year}
 use Rattle.year_sums.specs.YearSums.{sumsLength, zeroSums, updated, badSums}
-use Rattle.yearbook.specs.LentBook.{Lent, lent, bookLength, markAt, blockAt, blockLength, blockIn, blockOf, zeroBlock, placeOfMonth, putMonth, putSheet, clearMonth, freshBook, afterwards, opened, postAnswer, posted, replaceAnswer, replaced, withSheet, withdrawAnswer, withdrawn, ifMarked, lentAfter}
+use Rattle.yearbook.specs.LentBook.{Lent, lent, bookLength, markAt, blockAt, blockLength, blockIn, blockOf, zeroBlock, placeOfMonth, putMonth, putSheet, clearMonth, freshBook, opened, postAnswer, posted, replaceAnswer, replaced, withSheet, withdrawAnswer, withdrawn, ifMarked, lentAfter}
 use Rattle.yearbook.specs.Matches.{blockSum, Matches, OpenedMatch, MatchKept}
 use Rattle.yearbook.specs.Inner.Bring.{takenOff}
 use Rattle.year_sums.proofs.Lists.{zero-at}

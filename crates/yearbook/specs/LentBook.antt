@@ -12,7 +12,7 @@ use Rattle.sheet.specs.declared.refusal.Refusal.the-variants.{BadYearBook, Othe
 use Rattle.sheet.specs.declared.refusal.Outcome.{Outcome}
 use Rattle.sheet.specs.declared.refusal.Outcome.the-variants.{Accepted, Refused}
 use Rattle.sheet.specs.Tests.{if_then_else_, any}
-use Rattle.sheet.specs.Refusals.{Rule, _⇒_, firstRefusal}
+use Rattle.sheet.specs.Refusals.{Rule, _⇒_, firstRefusal, afterwards}
 use Rattle.sheet.specs.RuleSets.{newest}
 use Rattle.sheet.specs.Layout.{Sheet, sheetOf}
 use Rattle.sheet.specs.Check.{sameList, sheetRules}
@@ -115,12 +115,7 @@ zeroBook = replicate bookLength 0
 unfoldable pub freshBook : List ℕ → List ℕ
 freshBook sheet = let s = sheetOf sheet in sets (set zeroBook 0 (s .unitCount)) idsAt (map (λ u. u .id) (s .units))
 
--- a refused call keeps both lists
-abbrev pub afterwards : {A : Type 0} → Outcome → (before written : A) → A
-afterwards Accepted before written = written
-afterwards (Refused r) before written = before
-
--- ---- the answers and the lists afterwards
+-- ---- the answers, and the lists afterwards: a refused call keeps both
 -- open: 15 by the length alone, 1 to 7, 19 by the length alone
 unfoldable pub openAnswer : Lent → List ℕ → Outcome
 openAnswer l sheet = firstRefusal ((wrongSize (l .book) ⇒ BadYearBook) ∷ (sheetRules 32 sheet ++ (wrongSums (l .sums) ⇒ BadYearSums) ∷ []))

@@ -6,13 +6,14 @@ use Prim.Native.Nat.{ℕ, _*_}
 use native.Mathlib.Omega.{arith}
 use lib.ListN.{length}
 use Rattle.sheet.specs.declared.refusal.Outcome.the-variants.{Accepted}
+use Rattle.sheet.specs.Refusals.{afterwards}
 use Rattle.sheet.specs.RuleSets.{newest}
 use Rattle.sheet.specs.Layout.{sheetOf}
 use Rattle.group.specs.declared.buildings.Building.{Building}
 use Rattle.group.specs.declared.buildings.Spans.{Spans}
 use Rattle.group.specs.declared.answer.GroupAnswer.{GroupAnswer}
 use Rattle.group.specs.Group.{groupUnits, groupStatement}
-use Rattle.group.specs.Answer.{partsOf, groupOf, badGroup, firstIn, ownStages, unless}
+use Rattle.group.specs.Answer.{partsOf, groupOf, badGroup, firstIn, ownStages}
 use Rattle.group.specs.Inner.Spans.{SpansOf, badSpans, partsIn, sheetsIn, Inside}
 use Rattle.group.specs.Inner.Figures.{listAnswer, lastAnswer}
 use Rattle.group.proofs.Parts.{is-inside, reading-fits, parts-are, bad-is}
@@ -161,9 +162,9 @@ returns-4 c =
     let l = c .before .before .before .before .before .before .before .before .before .before .before .list-refusal in
     let r = c .before .before .before .before .before .settle-surveyed in
     let fits : (bs : List Building) (s : SpansOf bs (spans e)) → lists newest (sheets e) bs (reading e) (list e) ≡ Accepted = λ bs s. sym (l .ensures ∙ same-lists v bs s) ∙ c .before .before .before .before .before .before .before .before .before .enum-told3 .given .1 in
-    let answer : (bs : List Building) (s : SpansOf bs (spans e)) → Is newest (sheets e) bs (reading e) (list e) (record { outcome = r .result; building = 0 }) (unless (r .result) (list e) (groupStatement newest (groupOf (partsOf (sheets e) bs) (reading e)))) = λ bs s.
+    let answer : (bs : List Building) (s : SpansOf bs (spans e)) → Is newest (sheets e) bs (reading e) (list e) (record { outcome = r .result; building = 0 }) (afterwards (r .result) (list e) (groupStatement newest (groupOf (partsOf (sheets e) bs) (reading e)))) = λ bs s.
     settled newest (sheets e) bs (reading e) (list e) (good e bs s) (own-passed v bs s (c .before .before .before .before .before .before .before .before .before .before .before .before .enum-told .given .1)) (fits bs s) (r .result) (r .ensures .0 ∙ ap (λ (p : List (List ℕ)). lastAnswer newest (groupOf p (reading e))) (same-parts e bs s)) in
-    ((λ bs s. c .of-group3 .ensures ∙ answer bs s .0), (λ bs s. r .ensures .1 ∙ ap (λ (p : List (List ℕ)). unless (r .result) (list e) (groupStatement newest (groupOf p (reading e)))) (same-parts e bs s) ∙ answer bs s .1))
+    ((λ bs s. c .of-group3 .ensures ∙ answer bs s .0), (λ bs s. r .ensures .1 ∙ ap (λ (p : List (List ℕ)). afterwards (r .result) (list e) (groupStatement newest (groupOf p (reading e)))) (same-parts e bs s) ∙ answer bs s .1))
 
 pub settle-spans-spec : {M : Type 1} → statement M
 settle-spans-spec =
