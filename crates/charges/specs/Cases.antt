@@ -1,0 +1,2 @@
+-- Computed cases: samples, tables and runs.
+pub mod Charges
