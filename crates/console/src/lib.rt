@@ -1,5 +1,6 @@
 // Numbers and answers on standard output, numbers from standard input: what the programs share.
 ghost use Prim.Native.Nat.{_<_};
+ghost use lib.ListN.{length};
 use libc::STDIN_FILENO;
 use libc::STDOUT_FILENO;
 use sheet::Outcome;
@@ -88,4 +89,30 @@ pub fn digest(list: &[u32]) -> u64 {
         i += 1;
     }
     sum
+}
+
+// Writes 1, 2, 3 and so on.
+pub fn count_up(list: &mut [u32])
+    requires { ⌜ length (now list) < 4294967296 ⌝ }
+{
+    let mut x: u32 = 0;
+    for i in 0..list.len() {
+        x += 1;
+        list[i] = x;
+    }
+}
+
+fn print_numbers(list: &[u32]) {
+    for i in 0..list.len() {
+        word(wide(list[i]));
+    }
+}
+
+// The list of an accepted call: number by number up to 64, else as one number.
+pub fn print_settled(list: &[u32]) {
+    if 64 < list.len() {
+        word(digest(list));
+    } else {
+        print_numbers(list);
+    }
 }

@@ -18,35 +18,11 @@ const MOST_NUMBERS: usize = 2561;
 // 250,000 bytes hold no more calls.
 const MOST_CALLS: usize = 125_000;
 
-fn count_up(list: &mut [u32])
-    requires { ⌜ length (now list) ≤ 2561 ⌝ }
-{
-    let mut x: u32 = 0;
-    for i in 0..list.len() {
-        x += 1;
-        list[i] = x;
-    }
-}
-
-fn print_numbers(list: &[u32]) {
-    for i in 0..list.len() {
-        console::word(wide(list[i]));
-    }
-}
-
-fn print_settled(list: &[u32]) {
-    if 64 < list.len() {
-        console::word(console::digest(list));
-    } else {
-        print_numbers(list);
-    }
-}
-
 fn print_answer(answer: GroupAnswer, list: &[u32]) {
     let outcome = answer.outcome;
     let Outcome::Refused(r) = outcome else {
         console::answer(outcome);
-        print_settled(list);
+        console::print_settled(list);
         return;
     };
     console::number(wide(sheet::number(r)));
@@ -59,7 +35,7 @@ fn call(buffer: &mut [u8], spans: Spans, reading: u64, list: &mut [u32])
     requires { ⌜ length (now list) ≤ 2561 ⌝ }
 {
     let n = io::read_full(STDIN_FILENO, buffer);
-    count_up(list);
+    console::count_up(list);
     let answer = group::settle_spans(&buffer[..n], spans, reading, list);
     print_answer(answer, list);
     console::newline();

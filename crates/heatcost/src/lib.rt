@@ -12,8 +12,11 @@ ghost use Rattle.archive.specs.Reader.{readOutcome, countOf};
 ghost use Rattle.printing.specs.Printed.{printed, longest, atFront};
 ghost use Rattle.yearbook.specs.LentBook.{lent, openAnswer, opened, postAnswer, posted, replaceAnswer, replaced, withdrawAnswer, withdrawn};
 ghost use Rattle.group.specs.Answer.{groupAnswer, groupAfter};
+ghost use Rattle.charges.specs.Charges.{amounts};
+ghost use Rattle.charges.specs.Answer.{chargeAnswer, chargesAfter};
 ghost use Rattle.heatcost.specs.Answer.{answerNumber, groupNumber};
 ghost use Rattle.heatcost.specs.Year.{yearListAnswer, yearListAfter};
+use charges::Amounts;
 use group::Building;
 use group::GroupAnswer;
 use sheet::Outcome;
@@ -162,4 +165,25 @@ pub extern "C" fn heatcost_settle_group(
     ensures { λ _. ⌜ now (statement .exit) ≡ groupAfter newest (now (sheets .entry)) (now (buildings .entry)) reading (now (statement .entry)) ⌝ }
 {
     group_answer(group::settle_group(sheets, buildings, reading, statement))
+}
+
+// The fixed charges of a sheet, amounts in cents, into a list of 3n numbers (2026-05).
+#[no_mangle]
+pub extern "C" fn heatcost_fixed_charges(
+    sheet: &[u8],
+    model: u32,
+    power: u32,
+    buyer: u32,
+    supplier: u32,
+    charges: &mut [u32],
+) -> u32
+    ensures { λ r. ⌜ r ≡ answerNumber (chargeAnswer (now (sheet .entry)) model (amounts power buyer supplier) (now (charges .entry))) ⌝ }
+    ensures { λ _. ⌜ now (charges .exit) ≡ chargesAfter newest (now (sheet .entry)) model (amounts power buyer supplier) (now (charges .entry)) ⌝ }
+{
+    let amounts = Amounts {
+        power,
+        buyer,
+        supplier,
+    };
+    answer(charges::fixed_charges(sheet, model, amounts, charges))
 }

@@ -1,12 +1,12 @@
-use Prim.Native.Nat.{_-_, _≤_}
+use Prim.Native.Nat.{_-_, _≤_, _<_}
 use mathlib.Core.Path.{_≡_}
 use lib.ListN.{length}
 use borrow.Author.Needs.{needs}
-use Rattle.group_vectors.proofs.count_up.Statement.{statement}
-use Rattle.group_vectors.proofs.count_up.Tie as tie
+use Rattle.console.proofs.count_up.Statement.{statement}
+use Rattle.console.proofs.count_up.Tie as tie
 
 abbrev Inv-loop : tie.InvT-loop
-Inv-loop list₀ x₀ i₀ i-end list x i = (i ≤ i-end) × (i-end ≤ 2561) × (x ≡ i) × (length list ≡ i-end) × (length list₀ ≡ i-end)
+Inv-loop list₀ x₀ i₀ i-end list x i = (i ≤ i-end) × (i-end < 4294967296) × (x ≡ i) × (length list ≡ i-end) × (length list₀ ≡ i-end)
 
 abbrev μ-loop : tie.MeasureT-loop
 μ-loop list₀ x₀ i₀ i-end list x i = i-end - i

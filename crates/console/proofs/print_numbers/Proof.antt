@@ -1,7 +1,7 @@
 use Prim.Native.Nat.{_-_, _≤_}
 use borrow.Author.Needs.{needs}
-use Rattle.group_vectors.proofs.print_numbers.Statement.{statement}
-use Rattle.group_vectors.proofs.print_numbers.Tie as tie
+use Rattle.console.proofs.print_numbers.Statement.{statement}
+use Rattle.console.proofs.print_numbers.Tie as tie
 
 abbrev Inv-loop : tie.InvT-loop
 Inv-loop list i₀ i-end i = i ≤ i-end
