@@ -27,6 +27,8 @@ static void lengths(void)
     EXPECT(HEATCOST_SHEET_LEN(n), 144);
     EXPECT(HEATCOST_SHEET_LEN(1 + 2), 144);
     EXPECT(HEATCOST_STATEMENT_LEN(1 + 2), 24);
+    EXPECT(HEATCOST_CHARGES_LEN(1 + 2), 9);
+    EXPECT(HEATCOST_CHARGES_LEN(HEATCOST_MAX_UNITS), 480);
     EXPECT(HEATCOST_RECORD_LEN(1 + 2), 248);
     EXPECT(HEATCOST_RECORD_LEN(HEATCOST_MAX_UNITS), 10296);
     EXPECT(HEATCOST_PRINT_LEN(1 + 2), 346);
@@ -111,6 +113,33 @@ static void groups(void)
     EXPECT(heatcost_settle_group(sheets, LEN, two, 2, 512, statement, NUMBERS), HEATCOST_ACCEPTED);
 }
 
+/* Charges of one unit: amounts and model at their limits, no load, a list that stays, a month that 8 refuses, and 4 with
+ * a byte of the sheet. */
+static void charges(void)
+{
+    enum { MOST = HEATCOST_MAX_CHARGE, NUMBERS = HEATCOST_CHARGES_LEN(1) };
+    uint8_t sheet[HEATCOST_SHEET_LEN(1)];
+    uint32_t list[NUMBERS];
+    make_sheet(sheet, 0);
+    EXPECT(heatcost_fixed_charges(sheet, sizeof sheet, 2, MOST, 2, 3, list, NUMBERS), HEATCOST_ACCEPTED);
+    EXPECT(list[0], MOST);
+    EXPECT(list[1], 2);
+    EXPECT(list[2], 3);
+    EXPECT(heatcost_fixed_charges(sheet, sizeof sheet, 2, MOST + 1, 2, 3, list, NUMBERS), HEATCOST_HEADER_FIELD);
+    EXPECT(heatcost_fixed_charges(sheet, sizeof sheet, 2, 1, MOST + 1, 3, list, NUMBERS), HEATCOST_HEADER_FIELD);
+    EXPECT(heatcost_fixed_charges(sheet, sizeof sheet, 2, 1, 2, MOST + 1, list, NUMBERS), HEATCOST_HEADER_FIELD);
+    EXPECT(heatcost_fixed_charges(sheet, sizeof sheet, 0, 1, 2, 3, list, NUMBERS), HEATCOST_HEADER_FIELD);
+    EXPECT(heatcost_fixed_charges(sheet, sizeof sheet, 3, 1, 2, 3, list, 0), HEATCOST_HEADER_FIELD);
+    EXPECT(heatcost_fixed_charges(sheet, sizeof sheet, 1, 0, 0, 0, list, 0), HEATCOST_ZERO_DIVISOR);
+    EXPECT(heatcost_fixed_charges(sheet, sizeof sheet, 2, 1, 2, 3, list, NUMBERS - 1), HEATCOST_BUFFER_LENGTH);
+    EXPECT(list[0], MOST);
+    sheet[10] = sheet[24] = 1; /* source 1, and more hot water than the meter shows */
+    EXPECT(heatcost_settle(sheet, sizeof sheet, NULL, 0), HEATCOST_HOT_WATER_EXCEEDS_METER);
+    EXPECT(heatcost_fixed_charges(sheet, sizeof sheet, 2, 1, 2, 3, list, NUMBERS), HEATCOST_ACCEPTED);
+    sheet[44] = 1; /* the last hot water reading, with source 1 */
+    EXPECT(heatcost_fixed_charges(sheet, sizeof sheet, 3, 1, 2, 3, list, NUMBERS), 256 * 44 + 4);
+}
+
 /* Every list as NULL with a count of 0. */
 static void nulls(void)
 {
@@ -123,6 +152,8 @@ static void nulls(void)
     EXPECT(heatcost_settle_group(sheet, sizeof sheet, NULL, 0, 0, NULL, 0), HEATCOST_BAD_GROUP);
     EXPECT(heatcost_settle_group(NULL, 0, &nothing, 1, 0, NULL, 0), HEATCOST_TOO_SHORT);
     EXPECT(heatcost_settle_group(sheet, sizeof sheet, &whole, 1, 0, NULL, 0), HEATCOST_BUFFER_LENGTH);
+    EXPECT(heatcost_fixed_charges(NULL, 0, 2, 1, 2, 3, NULL, 0), HEATCOST_TOO_SHORT);
+    EXPECT(heatcost_fixed_charges(sheet, sizeof sheet, 2, 1, 2, 3, NULL, 0), HEATCOST_BUFFER_LENGTH);
     EXPECT(heatcost_print(NULL, 0, NULL, 0), strlen("refused 1 0\n"));
     EXPECT(heatcost_print(sheet, sizeof sheet, NULL, 0), strlen("month 1 units 1 wh 0 cents 0\n0 0 0 0 0 0 0 0 0\n"));
     EXPECT(heatcost_write_record(NULL, 0, NULL, 0), HEATCOST_TOO_SHORT);
@@ -211,6 +242,7 @@ int main(void)
     answers();
     places();
     groups();
+    charges();
     nulls();
     nulls_of_a_year();
     threads();

@@ -1,6 +1,6 @@
 /* From plain fields to a statement: case A of docs/FORMAT.md as a sheet's bytes, settled, and printed as the program
- * `statement` prints it; then the same month with a fault in its third row, with two fields that clash there, and with
- * a fault in the header. */
+ * `statement` prints it; its fixed part, divided by area beside the statement, and by load, which no unit has; then the
+ * same month with a fault in its third row, with two fields that clash there, and with a fault in the header. */
 #include <stdio.h>
 
 #include "heatcost.h"
@@ -103,6 +103,11 @@ static void print_statement(const struct month *month, const uint32_t *statement
     }
 }
 
+static void print_refusal(uint32_t answer)
+{
+    printf("refused %d %d: %s\n", (int)HEATCOST_NUMBER(answer), (int)HEATCOST_PLACE(answer), heatcost_text(answer));
+}
+
 static void settle_and_print(const struct month *month)
 {
     uint8_t sheet[HEATCOST_SHEET_LEN(UNITS)];
@@ -113,13 +118,33 @@ static void settle_and_print(const struct month *month)
     if (answer == HEATCOST_ACCEPTED)
         print_statement(month, statement);
     else
-        printf("refused %d %d: %s\n", (int)HEATCOST_NUMBER(answer), (int)HEATCOST_PLACE(answer), heatcost_text(answer));
+        print_refusal(answer);
+}
+
+/* Power, buyer's fee and supplier's fee in cents, by model 1S or 2S: three numbers a unit. */
+static void divide_and_print(const struct month *month, uint32_t model)
+{
+    uint8_t sheet[HEATCOST_SHEET_LEN(UNITS)];
+    uint32_t charges[HEATCOST_CHARGES_LEN(UNITS)];
+    uint32_t answer;
+    int i;
+    put_sheet(sheet, month);
+    answer = heatcost_fixed_charges(sheet, sizeof sheet, model, 6000, 300, 101, charges, HEATCOST_CHARGES_LEN(UNITS));
+    if (answer != HEATCOST_ACCEPTED) {
+        print_refusal(answer);
+        return;
+    }
+    for (i = 0; i < UNITS; i++)
+        printf("%lu fixed %lu %lu %lu\n", (unsigned long)month->units[i].id, (unsigned long)charges[3 * i],
+               (unsigned long)charges[3 * i + 1], (unsigned long)charges[3 * i + 2]);
 }
 
 int main(void)
 {
     struct month faulty = case_a;
     settle_and_print(&case_a);
+    divide_and_print(&case_a, HEATCOST_MODEL_2S);
+    divide_and_print(&case_a, HEATCOST_MODEL_1S);
     faulty.units[2].location_factor = 0;
     settle_and_print(&faulty);
     faulty.units[2].location_factor = 1000;

@@ -1,6 +1,6 @@
 """From plain fields to a statement: case A of docs/FORMAT.md as a sheet's bytes, settled, and printed as the program
-`statement` prints it; then the same month with a fault in its third row, with two fields that clash there, and with a
-fault in the header.
+`statement` prints it; its fixed part, divided by area beside the statement, and by load, which no unit has; then the
+same month with a fault in its third row, with two fields that clash there, and with a fault in the header.
 
 The argument is the library as a shared object.
 """
@@ -68,15 +68,19 @@ def sheet_bytes(month):
     return sheet
 
 
+def print_refusal(answer):
+    place, number = divmod(answer, 256)
+    print(f"refused {number} {place}: {TEXTS[number]}")
+
+
 def settle_and_print(library, month):
     sheet = sheet_bytes(month)
     units = month["units"]
     # A unit's numbers are four Wh, then four cents; all cents add to the bill.
     statement = (ctypes.c_uint32 * (8 * len(units)))()
     answer = library.heatcost_settle(sheet, len(sheet), statement, len(statement))
-    place, number = divmod(answer, 256)
-    if number != 0:
-        print(f"refused {number} {place}: {TEXTS[number]}")
+    if answer != 0:
+        print_refusal(answer)
         return
     rows = [statement[8 * i : 8 * i + 8] for i in range(len(units))]
     bill = sum(sum(row[4:]) for row in rows)
@@ -85,16 +89,29 @@ def settle_and_print(library, month):
         print(fields["id"], *row)
 
 
+def divide_and_print(library, month, model):
+    """Power, buyer's fee and supplier's fee in cents, by model 1S or 2S: three numbers a unit."""
+    sheet = sheet_bytes(month)
+    units = month["units"]
+    charges = (ctypes.c_uint32 * (3 * len(units)))()
+    answer = library.heatcost_fixed_charges(sheet, len(sheet), model, 6000, 300, 101, charges, len(charges))
+    if answer != 0:
+        print_refusal(answer)
+        return
+    for i, fields in enumerate(units):
+        print(fields["id"], "fixed", *charges[3 * i : 3 * i + 3])
+
+
 def main(path):
     library = ctypes.CDLL(path)
+    sheet, numbers = [ctypes.c_char_p, ctypes.c_size_t], [ctypes.POINTER(ctypes.c_uint32), ctypes.c_size_t]
     library.heatcost_settle.restype = ctypes.c_uint32
-    library.heatcost_settle.argtypes = [
-        ctypes.c_char_p,
-        ctypes.c_size_t,
-        ctypes.POINTER(ctypes.c_uint32),
-        ctypes.c_size_t,
-    ]
+    library.heatcost_settle.argtypes = sheet + numbers
+    library.heatcost_fixed_charges.restype = ctypes.c_uint32
+    library.heatcost_fixed_charges.argtypes = sheet + [ctypes.c_uint32] * 4 + numbers
     settle_and_print(library, CASE_A)
+    divide_and_print(library, CASE_A, 2)
+    divide_and_print(library, CASE_A, 1)
     *others, third = CASE_A["units"]
     settle_and_print(library, CASE_A | dict(units=others + [third | dict(location_factor=0)]))
     # Not read, but with a reading.

@@ -1,35 +1,37 @@
 /* Heat cost settlement under the Croatian Regulation NN 140/25: the calls of libheatcost.a, which `rt staticlib
  * heatcost` builds for Linux on x86-64. This header is C99 and C++. docs/FORMAT.md has the layouts of sheet,
- * statement, record, year book, year sums and printed text, and for each refusal what to correct; examples/ shows the
- * calls in use.
+ * statement, charges, record, year book, year sums and printed text, and for each refusal what to correct; examples/
+ * shows the calls in use.
  *
  * n is the number of units behind the shared meter, 1 to HEATCOST_MAX_UNITS: bytes 8 and 9 of a sheet, low byte first.
  * A sheet has a month, but neither year nor building: keep these beside it, for example in a file's name.
  *
  * Lists. A list is a pointer and the count of its elements, which must be there; what they hold is free. The pointer
  * has the alignment of its type; with a count of 0 it isn't used and may be NULL. Lists that a call only writes
- * (statement, record, text, totals, book and sums at opening) need no values beforehand. The lists of one call must
- * not overlap: a record can't be built in place around its own sheet.
+ * (statement, charges, record, text, totals, book and sums at opening) need no values beforehand. The lists of one call
+ * must not overlap: a record can't be built in place around its own sheet.
  *
  * Answers. A uint64_t is a length. A uint32_t is 0 for accepted, else the refusal's number + 256 * its place: for 4 the
- * first wrong header field's byte in the sheet, in a record too; for 6, 7 and 20 the row, counted from 0; for all
- * others 0. In a group a building's own refusal, 1 to 12 or 20, has its place raised by 160 * the building's place in
- * the list, from 0: that is place / HEATCOST_MAX_UNITS, and the remainder is the row or byte. Refusals are tested in
- * the order that stands with the call, and the first that holds is the answer. 6, 20 and 7 go row by row: in a row
- * field by field, at each field first 6, then 20; after its fields 7. So 20 stands beside 6, before 8 to 12. A refused
- * call leaves every list, book and sums too, as it was. Printing is never refused: a refusal has a text too.
+ * first wrong header field's byte in the sheet, in a record too, or 0 where it is an amount or the model of a call for
+ * charges; for 6, 7 and 20 the row, counted from 0; for all others 0. In a group a building's own refusal, 1 to 12 or
+ * 20, has its place raised by 160 * the building's place in the list, from 0: that is place / HEATCOST_MAX_UNITS, and
+ * the remainder is the row or byte. Refusals are tested in the order that stands with the call, and the first that
+ * holds is the answer. 6, 20 and 7 go row by row: in a row field by field, at each field first 6, then 20; after its
+ * fields 7. So 20 stands beside 6, before 8 to 12. A refused call leaves every list, book and sums too, as it was.
+ * Printing is never refused: a refusal has a text too.
  *
  * Threads. Nothing is kept between calls, and the library has no data that it writes. Calls may run side by side as
  * long as no list that one of them writes is used by another.
  *
- * Rules. Settling, alone or in a group, printing, writing a record, posting and replacing go by the newest rules, those
- * of archive version 2; reading a record goes by the rules of the record's own version, 1 or 2 (docs/FORMAT.md,
- * "Archive versions").
+ * Rules. Settling, alone or in a group, dividing charges, printing, writing a record, posting and replacing go by the
+ * newest rules, those of archive version 2; reading a record goes by the rules of the record's own version, 1 or 2
+ * (docs/FORMAT.md, "Archive versions").
  *
  * Memory. No call uses the heap: memcpy and memset are all that the library needs from outside (`nm -u`). A call takes
- * at most HEATCOST_STACK bytes of stack: settling 18,100, a group 20,000; printing, writing or reading a record, posting
- * and replacing 23,400; withdrawing 5,300; opening and the year call 300. `compare/run stack` measures this on a painted stack. The
- * caller's own frames come on top, and what the system needs: a thread's own block, a first lookup of memcpy or memset.
+ * at most HEATCOST_STACK bytes of stack: settling 18,100, a group 20,000, charges 4,800; printing, writing or reading a
+ * record, posting and replacing 23,400; withdrawing 5,300; opening and the year call 300. `compare/run stack` measures
+ * this on a painted stack. The caller's own frames come on top, and what the system needs: a thread's own block, a
+ * first lookup of memcpy or memset.
  */
 #ifndef HEATCOST_H
 #define HEATCOST_H
@@ -43,11 +45,12 @@
 /* Bytes of stack that a call may take. */
 #define HEATCOST_STACK 24576
 
-/* The largest n; for n units, unsigned, the bytes of a sheet, the numbers of a statement (uint32_t), the bytes of a
- * record, and the most bytes that a printed text has. */
+/* The largest n; for n units, unsigned, the bytes of a sheet, the numbers of a statement and of charges (uint32_t), the
+ * bytes of a record, and the most bytes that a printed text has. */
 #define HEATCOST_MAX_UNITS 160
 #define HEATCOST_SHEET_LEN(n) (48u + 32u * (n))
 #define HEATCOST_STATEMENT_LEN(n) (8u * (n))
+#define HEATCOST_CHARGES_LEN(n) (3u * (n))
 #define HEATCOST_RECORD_LEN(n) (56u + 64u * (n))
 #define HEATCOST_PRINT_LEN(n) (49u + 99u * (n))
 
@@ -59,6 +62,12 @@
 
 /* The most buildings of a group. */
 #define HEATCOST_MAX_BUILDINGS 12
+
+/* The most cents of each amount that is divided into charges, and the models of that call: 1S by connected load, 2S by
+ * heated area. */
+#define HEATCOST_MAX_CHARGE 100000000
+#define HEATCOST_MODEL_1S 1
+#define HEATCOST_MODEL_2S 2
 
 /* The two parts of an answer. */
 #define HEATCOST_NUMBER(answer) ((answer) % 256u)
@@ -103,7 +112,7 @@ static inline const char *heatcost_text(uint32_t number)
     case HEATCOST_UNSUPPORTED_VERSION:
         return "the sheet's version, bytes 4 and 5, isn't 1";
     case HEATCOST_HEADER_FIELD:
-        return "the header field at that byte is out of range, or doesn't go with model or water source";
+        return "the header field at that byte is out of range or doesn't fit model or source; at 0 the call's amount or model";
     case HEATCOST_WRONG_LENGTH:
         return "the length doesn't fit n: a sheet has 48 + 32n bytes, a record 56 + 64n";
     case HEATCOST_ROW_FIELD:
@@ -121,7 +130,7 @@ static inline const char *heatcost_text(uint32_t number)
     case HEATCOST_UNMETERED_EXCEEDS_HEAT:
         return "the units not read outweigh the whole: their weights add to more than 10,000 times P";
     case HEATCOST_BUFFER_LENGTH:
-        return "the list for statement, record or totals has the wrong length";
+        return "the list for statement, charges, record or totals has the wrong length";
     case HEATCOST_BAD_ARCHIVE:
         return "the record has fewer than 8 bytes, a wrong head, or a statement that isn't its sheet's";
     case HEATCOST_BAD_YEAR_BOOK:
@@ -176,6 +185,16 @@ uint32_t heatcost_settle(const uint8_t *sheet, size_t sheet_len, uint32_t *state
  * below 0. */
 uint32_t heatcost_settle_group(const uint8_t *sheets, size_t sheets_len, const heatcost_building *buildings,
                                size_t buildings_len, uint64_t shared_wh, uint32_t *statement, size_t statement_len);
+
+/* Divides the fixed part of a month, three amounts in cents, each at most HEATCOST_MAX_CHARGE: connection power,
+ * buyer's fee and supplier's fee. model is HEATCOST_MODEL_1S or HEATCOST_MODEL_2S; the sheet's own model plays no part,
+ * and a month that 8 to 12 refuse has charges too. Writes the charges, 3 numbers a unit in this order; over all units
+ * each adds to its amount. They stand beside the statement: no record, text or year book has them.
+ *
+ * Refusals: 1 to 7 with 20; 4 with place 0 for an amount over its limit or another model; 9 under 1S when all loads are
+ * 0, also with nothing to divide; 13 unless charges_len is HEATCOST_CHARGES_LEN(n). */
+uint32_t heatcost_fixed_charges(const uint8_t *sheet, size_t sheet_len, uint32_t model, uint32_t power,
+                                uint32_t buyer_fee, uint32_t supplier_fee, uint32_t *charges, size_t charges_len);
 
 /* Prints a sheet: its month, or the line of its refusal, 1 to 12 with 20 (docs/FORMAT.md, "The printed form"). Answers
  * how many bytes that text has, no zero byte among them: at most HEATCOST_PRINT_LEN(n), refused at most

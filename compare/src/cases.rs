@@ -1,4 +1,5 @@
-//! Document 01, "Cases for the proofs": the sheets of the cases.
+//! Document 01, "Cases for the proofs": the sheets of the cases, and a few more
+//! beside case A.
 
 use crate::sheet::{Header, Sheet, Unit};
 
@@ -32,6 +33,15 @@ pub fn case_a_with_readings(readings: [u32; 3]) -> Sheet {
     let mut sheet = case_a();
     for (unit, reading) in sheet.units.iter_mut().zip(readings) {
         unit.reading = reading;
+    }
+    sheet
+}
+
+/// Request 2026-05: A with heat loads.
+pub fn case_a_with_loads(loads: [u32; 3]) -> Sheet {
+    let mut sheet = case_a();
+    for (unit, load) in sheet.units.iter_mut().zip(loads) {
+        unit.heat_load_w = load;
     }
     sheet
 }
@@ -96,4 +106,53 @@ pub fn case_a_with_meter(shared_meter_wh: u32) -> Sheet {
     let mut sheet = case_a();
     sheet.header.shared_meter_wh = shared_meter_wh;
     sheet
+}
+
+/// A sheet for January at case A's price, a row for each area and reading.
+pub fn building(model: u8, meter: u32, rows: &[(u32, u32)]) -> Sheet {
+    let unit = |(place, &(heated_area, reading)): (usize, &(u32, u32))| Unit {
+        id: 21 + place as u32,
+        location_factor: 1_000,
+        heated_area,
+        reading,
+        ..Unit::default()
+    };
+    Sheet {
+        header: Header {
+            month: 1,
+            model,
+            unit_count: rows.len() as u16,
+            unmetered_factor: if model >= 3 { 30 } else { 0 },
+            shared_meter_wh: meter,
+            price: 10_000,
+            ..Header::default()
+        },
+        units: rows.iter().enumerate().map(unit).collect(),
+    }
+}
+
+/// Model 2: all of its heat goes to the units.
+pub fn by_area() -> Sheet {
+    building(2, 500_000, &[(400, 0), (600, 0)])
+}
+
+/// Model 5, 100,000 Wh of common heat.
+pub fn by_meters() -> Sheet {
+    building(5, 500_000, &[(400, 150_000), (600, 250_000)])
+}
+
+/// Sheets that 8, 9, 10, 11 and 12 refuse, for January at case A's price.
+pub fn refused_months() -> Vec<Sheet> {
+    let mut water = case_a();
+    water.header.source = 1;
+    water.header.hot_water_inputs[0] = 1_000_001;
+    let mut divisor = water.clone();
+    divisor.header.hot_water_inputs[0] = 1;
+    let mut unread = case_a();
+    for unit in &mut unread.units {
+        (unit.status, unit.reading) = (3, 0);
+    }
+    let mut meters = by_meters();
+    meters.header.shared_meter_wh = 399_999;
+    vec![water, divisor, unread, meters, two_units(31)]
 }

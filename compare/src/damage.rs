@@ -2,7 +2,7 @@
 
 use crate::rng::Rng;
 use crate::samples::random_sheet;
-use crate::sheet::{build_sheet, HEADER_BYTES, ROW_BYTES};
+use crate::sheet::{build_sheet, get_u16, HEADER_BYTES, MAX_UNITS, ROW_BYTES};
 
 /// Offset and size of each header field behind mark and version.
 pub const HEADER_FIELDS: [(usize, usize); 17] = [
@@ -43,6 +43,14 @@ const ROW_FIELDS: [(usize, usize); 11] = [
 /// Writes the low `size` bytes of `value` at `offset`.
 pub fn put(bytes: &mut [u8], (offset, size): (usize, usize), value: u64) {
     bytes[offset..offset + size].copy_from_slice(&value.to_le_bytes()[..size]);
+}
+
+/// n as the header has it, at most 160; 0 where it has none.
+pub fn unit_count(sheet: &[u8]) -> usize {
+    if sheet.len() < 10 {
+        return 0;
+    }
+    usize::from(get_u16(sheet, 8)).min(MAX_UNITS)
 }
 
 /// A random sheet's bytes with one to three damages.

@@ -1,12 +1,14 @@
 //! Random groups of buildings (request 2026-04).
 
-use crate::group::{adjusted_common_heat, difference_shares, total_area, Building};
+use crate::damage::unit_count;
+use crate::group::{adjusted_common_heat, difference_shares, settle_group, total_area, Building};
 use crate::group_faults::{spoil_list, spoil_sheet, Fault};
+use crate::refusal::Refusal;
 use crate::rng::Rng;
 use crate::rules::NEWEST;
 use crate::samples::{random_ids, random_metered_sheet};
 use crate::settle::{common_heat, settle_sheet};
-use crate::sheet::{build_sheet, get_u16, Header, Sheet, Unit, MAX_WH};
+use crate::sheet::{build_sheet, Header, Sheet, Unit, MAX_WH};
 
 /// What a group call is given, and how long its statement list is.
 #[derive(Clone, Debug)]
@@ -31,6 +33,11 @@ impl Group {
             group.lay(sheet);
         }
         group
+    }
+
+    /// The plain form's answer.
+    pub fn settle(&self) -> Result<Vec<u32>, Refusal> {
+        settle_group(&self.buffer, &self.buildings, self.shared_wh, self.list_len)
     }
 
     /// Puts a sheet behind the buffer's end and into the list.
@@ -80,11 +87,8 @@ fn group_with(rng: &mut Rng, mut sheets: Vec<Sheet>, shared_wh: u64, faults: &[F
     }
     let mut group = laid_out(rng, &bytes);
     group.shared_wh = shared_wh;
-    let counts = bytes.iter().filter(|sheet| sheet.len() >= 10);
-    let units: usize = counts
-        .map(|sheet| usize::from(get_u16(sheet, 8)).min(160))
-        .sum();
-    group.list_len = 8 * units;
+    let units = bytes.iter().map(|sheet| unit_count(sheet));
+    group.list_len = 8 * units.sum::<usize>();
     for fault in faults {
         spoil_list(rng, &mut group, *fault);
     }

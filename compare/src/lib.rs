@@ -1,5 +1,5 @@
 //! An independent implementation of document 01 in plain Rust, with requests
-//! 2026-01 to 2026-04.
+//! 2026-01 to 2026-05.
 //!
 //! It was written from the documents alone and shares no code with the product.
 //! Nothing here is proved. It makes the stored vectors of the gate, and it is
@@ -38,6 +38,11 @@
 //!   number and place; then, for an accepted group of at most 64 numbers, the
 //!   list's numbers, in every other case the list afterwards as one number
 //!   (`vectors::digest`).
+//! - `cargo run --release --bin charge_vectors FOLDER`: request 2026-05. A vector
+//!   is the length of all that follows (16 bits, at most 5,300), the call's model
+//!   and its three amounts (32 bits each: power, buyer's fee, supplier's fee), the
+//!   count of numbers in the lent list (16 bits, at most 481), and the sheet: the
+//!   bytes that are left. List and line are as for groups.
 //!
 //! All numbers in `stdin` are little-endian. `cargo test --release` runs the
 //! document's cases and the random checks. `compare/run` compares the library
@@ -49,6 +54,8 @@ pub mod apportion;
 pub mod book;
 pub mod calls;
 pub mod cases;
+pub mod charge_calls;
+pub mod charges;
 pub mod damage;
 pub mod edges;
 pub mod fast;

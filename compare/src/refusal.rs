@@ -1,9 +1,10 @@
-//! Document 01, "Refused sheets and calls", with requests 2026-02 to 2026-04:
+//! Document 01, "Refused sheets and calls", with requests 2026-02 to 2026-05:
 //! numbers and places.
 
 /// A refusal's number, and its place: the row for 6, 7 and 20, the header
-/// field's byte in the sheet for 4, else 0; a building's own refusal in a group
-/// has it raised by 160 × the building's place.
+/// field's byte in the sheet for 4, else 0, also for the 4 of an amount or model
+/// of the charges; a building's own refusal in a group has it raised by 160 ×
+/// the building's place.
 #[derive(Clone, Copy, Debug, PartialEq, Eq)]
 pub struct Refusal {
     pub number: u32,

@@ -1,6 +1,9 @@
-//! The stored vectors: their files, the form of a sheet vector and of a group.
+//! The stored vectors: their files, the form of a sheet vector, of a group and of
+//! charges, and the line for a list.
 
+use crate::charge_calls::ChargeCall;
 use crate::groups::Group;
+use crate::refusal::Refusal;
 use std::path::PathBuf;
 
 /// Writes the files `stdin` and `stdout` into the folder that the program's
@@ -32,6 +35,24 @@ pub fn digest(numbers: impl Iterator<Item = u64>) -> u64 {
     numbers.fold(0, |sum, number| (31 * sum + number % PRIME) % PRIME)
 }
 
+/// The numbers of an accepted call's list are printed up to this many.
+const PRINTED: usize = 64;
+
+/// The line of a call whose list held 1, 2, 3 and so on: number and place, then
+/// the list afterwards.
+pub fn list_line(answer: Result<Vec<u32>, Refusal>, list_len: usize) -> String {
+    match answer {
+        Ok(numbers) if numbers.len() <= PRINTED => {
+            let words: String = numbers.iter().map(|number| format!(" {number}")).collect();
+            format!("0 0{words}\n")
+        }
+        Ok(numbers) => format!("0 0 {}\n", digest(numbers.into_iter().map(u64::from))),
+        Err(Refusal { number, place }) => {
+            format!("{number} {place} {}\n", digest(1..=list_len as u64))
+        }
+    }
+}
+
 /// A group call: count of buildings (8 bits), their offsets and lengths and the
 /// shared reading (64 bits each), count of statement numbers (16 bits), buffer.
 pub fn group_bytes(group: &Group) -> Vec<u8> {
@@ -43,5 +64,15 @@ pub fn group_bytes(group: &Group) -> Vec<u8> {
     bytes.extend(group.shared_wh.to_le_bytes());
     bytes.extend((group.list_len as u16).to_le_bytes());
     bytes.extend(&group.buffer);
+    bytes
+}
+
+/// A call of charges: model and amounts (32 bits each), count of the list's
+/// numbers (16 bits), sheet.
+pub fn charge_bytes(call: &ChargeCall) -> Vec<u8> {
+    let mut bytes = call.model.to_le_bytes().to_vec();
+    bytes.extend(call.amounts.iter().flat_map(|amount| amount.to_le_bytes()));
+    bytes.extend((call.list_len as u16).to_le_bytes());
+    bytes.extend(&call.sheet);
     bytes
 }

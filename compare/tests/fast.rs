@@ -1,16 +1,16 @@
 //! The fast form against the plain one: answers and every list.
 
 use compare::book::{self, BOOK_LEN, SUMS_LEN};
-use compare::damage::damaged_sheet;
+use compare::charge_calls::{random_charge_call, ChargeCall};
+use compare::damage::{damaged_sheet, unit_count};
 use compare::edges::{border_sheet, sheet_at_an_end};
 use compare::faults::faulty_sheet;
-use compare::group;
 use compare::groups::{random_group, Group};
 use compare::refusal::Refusal;
 use compare::rng::Rng;
 use compare::rules::RuleSet;
 use compare::samples::random_sheet;
-use compare::sheet::{build_sheet, get_u16};
+use compare::sheet::build_sheet;
 use compare::{apportion, fast, print, record, settle};
 
 fn random_bytes(rng: &mut Rng) -> Vec<u8> {
@@ -21,13 +21,6 @@ fn random_bytes(rng: &mut Rng) -> Vec<u8> {
         3 => faulty_sheet(rng),
         _ => build_sheet(&random_sheet(rng)),
     }
-}
-
-fn unit_count(sheet: &[u8]) -> usize {
-    if sheet.len() < 10 {
-        return 0;
-    }
-    usize::from(get_u16(sheet, 8)).min(160)
 }
 
 #[test]
@@ -150,8 +143,19 @@ fn books() {
     }
 }
 
-/// The fast form's answer, and the list afterwards.
-fn fast_group<const RECIPROCAL: bool>(group: &Group) -> (Result<(), Refusal>, Vec<u32>) {
+/// A call's answer, and its list of sevens afterwards.
+type After = (Result<(), Refusal>, Vec<u32>);
+
+/// The plain form's.
+fn after(answer: Result<Vec<u32>, Refusal>, list_len: usize) -> After {
+    match answer {
+        Ok(numbers) => (Ok(()), numbers),
+        Err(refusal) => (Err(refusal), vec![7; list_len]),
+    }
+}
+
+/// The fast form's.
+fn fast_group<const RECIPROCAL: bool>(group: &Group) -> After {
     let Group {
         buffer,
         buildings,
@@ -169,22 +173,41 @@ fn groups() {
     let mut answers = [0; 23];
     for _ in 0..30_000 {
         let group = random_group(&mut rng);
-        let Group {
-            buffer,
-            buildings,
-            shared_wh,
-            list_len,
-        } = &group;
-        let expected = match group::settle_group(buffer, buildings, *shared_wh, *list_len) {
-            Ok(numbers) => (Ok(()), numbers),
-            Err(refusal) => (Err(refusal), vec![7; *list_len]),
-        };
+        let expected = after(group.settle(), group.list_len);
         assert_eq!(fast_group::<true>(&group), expected, "{group:?}");
         assert_eq!(fast_group::<false>(&group), expected, "{group:?}");
         answers[expected.0.err().map_or(0, |refusal| refusal.number) as usize] += 1;
     }
     for number in (0..=13).chain(20..=22) {
         assert!(answers[number] > 100, "few answers {number}: {answers:?}");
+    }
+}
+
+/// The same for charges.
+fn fast_charges<const RECIPROCAL: bool>(call: &ChargeCall) -> After {
+    let mut list = vec![7; call.list_len];
+    let answer = fast::charges::fixed_charges::<RECIPROCAL>(
+        &call.sheet,
+        call.model,
+        call.amounts,
+        &mut list,
+    );
+    (answer, list)
+}
+
+#[test]
+fn fixed_charges() {
+    let mut rng = Rng::new(37);
+    let mut answers = [0; 21];
+    for _ in 0..30_000 {
+        let call = random_charge_call(&mut rng);
+        let expected = after(call.divide(), call.list_len);
+        assert_eq!(fast_charges::<true>(&call), expected, "{call:?}");
+        assert_eq!(fast_charges::<false>(&call), expected, "{call:?}");
+        answers[expected.0.err().map_or(0, |refusal| refusal.number) as usize] += 1;
+    }
+    for number in [0, 1, 2, 3, 4, 5, 6, 7, 9, 13, 20] {
+        assert!(answers[number] > 180, "few answers {number}: {answers:?}");
     }
 }
 

@@ -1,7 +1,7 @@
 //! Request 2026-04: groups by hand, the order of their refusals, and the laws on
 //! random groups.
 
-use compare::cases::case_a;
+use compare::cases::{building, by_area, by_meters, case_a};
 use compare::damage::put;
 use compare::group::{settle_group, Building};
 use compare::group_laws::check_statements;
@@ -9,58 +9,15 @@ use compare::groups::{sound_group, Group};
 use compare::refusal::Refusal;
 use compare::rng::Rng;
 use compare::settle::settle_bytes;
-use compare::sheet::{build_sheet, Header, Sheet, Unit};
-
-fn settle(group: &Group) -> Result<Vec<u32>, Refusal> {
-    settle_group(
-        &group.buffer,
-        &group.buildings,
-        group.shared_wh,
-        group.list_len,
-    )
-}
+use compare::sheet::{build_sheet, Sheet, Unit};
 
 /// A group of sheets for a list of the right length.
 fn settled(sheets: &[Sheet], shared_wh: u64) -> Result<Vec<u32>, Refusal> {
-    settle(&Group::of(sheets, shared_wh))
+    Group::of(sheets, shared_wh).settle()
 }
 
 fn pair<T>(answer: Result<T, Refusal>) -> (u32, u32) {
     answer.map_or_else(|refusal| (refusal.number, refusal.place), |_| (0, 0))
-}
-
-/// A sheet of two units for January at case A's price: areas 400 and 600, or
-/// 1 alone.
-fn building(model: u8, meter: u32, areas: &[u32], readings: &[u32]) -> Sheet {
-    let units = (0..areas.len()).map(|place| Unit {
-        id: 21 + place as u32,
-        location_factor: 1_000,
-        heated_area: areas[place],
-        reading: readings[place],
-        ..Unit::default()
-    });
-    Sheet {
-        header: Header {
-            month: 1,
-            model,
-            unit_count: areas.len() as u16,
-            unmetered_factor: if model >= 3 { 30 } else { 0 },
-            shared_meter_wh: meter,
-            price: 10_000,
-            ..Header::default()
-        },
-        units: units.collect(),
-    }
-}
-
-/// All of its heat goes to the units.
-fn by_area() -> Sheet {
-    building(2, 500_000, &[400, 600], &[0, 0])
-}
-
-/// 100,000 Wh of common heat.
-fn by_meters() -> Sheet {
-    building(5, 500_000, &[400, 600], &[150_000, 250_000])
 }
 
 #[test]
@@ -126,12 +83,12 @@ fn without_common_heat() {
     assert_eq!(pair(settled(&[case_a(), by_area()], 1_470_000)), (21, 0));
     assert_eq!(pair(settled(&[by_area(), case_a()], 1_470_000)), (21, 0));
     // 1 off by 2,000 and 1: the second share is 0.
-    let small = building(2, 500_000, &[1], &[0]);
+    let small = building(2, 500_000, &[(1, 0)]);
     let numbers = settled(&[case_a(), small.clone()], 1_499_999).unwrap();
     assert_eq!(numbers[17], 99_999);
     assert_eq!(numbers[24..28], [500_000, 0, 0, 0]);
     // 1 off by equal areas: the earlier building's.
-    let equal = building(2, 500_000, &[1_000, 1_000], &[0, 0]);
+    let equal = building(2, 500_000, &[(1_000, 0), (1_000, 0)]);
     let equals = [case_a(), equal.clone()];
     assert_eq!(pair(settled(&equals, 1_499_999)), (0, 0));
     assert_eq!(pair(settled(&equals, 1_499_998)), (21, 0));
@@ -141,7 +98,7 @@ fn without_common_heat() {
 #[test]
 fn past_32_bits() {
     // Twelve times 4,000,000,000 of common heat.
-    let sheet = building(5, 4_000_000_000, &[100], &[0]);
+    let sheet = building(5, 4_000_000_000, &[(100, 0)]);
     let group = vec![sheet; 12];
     let common = |shared_wh| -> Vec<u32> {
         let numbers = settled(&group, shared_wh).unwrap();
@@ -171,7 +128,7 @@ fn areas_of_all_units() {
 #[test]
 fn overlapping_and_equal_sheets() {
     // The second sheet's first 32 bytes are the first one's last row.
-    let mut second = building(2, 90_000, &[400, 600], &[0, 0]);
+    let mut second = building(2, 90_000, &[(400, 0), (600, 0)]);
     second.header.price = 0;
     let mut first = case_a();
     first.header.price = 0;
@@ -197,7 +154,7 @@ fn overlapping_and_equal_sheets() {
     };
     let numbers = settle_group(&buffer, &buildings, 2_095_000, 80);
     assert_eq!(pair(numbers.clone()), (0, 0));
-    assert_eq!(numbers, settle(&apart));
+    assert_eq!(numbers, apart.settle());
 }
 
 /// A group of three times case A, whose bytes and list can be changed.
@@ -208,14 +165,14 @@ fn three() -> Group {
 fn changed(change: impl FnOnce(&mut Group)) -> (u32, u32) {
     let mut group = three();
     change(&mut group);
-    pair(settle(&group))
+    pair(group.settle())
 }
 
 #[test]
 fn a_group_of_its_own_reading() {
     let own = settle_bytes(&build_sheet(&case_a())).unwrap().numbers;
     assert_eq!(
-        settle(&three()),
+        three().settle(),
         Ok([own.clone(), own.clone(), own].concat())
     );
 }
@@ -337,14 +294,14 @@ fn order_of_refusals() {
     water.header.source = 1;
     water.header.hot_water_inputs[0] = 1_000_001;
     let mut group = Group::of(&[case_a(), water, case_a()], 3_000_000);
-    assert_eq!(pair(settle(&group)), (8, 160));
+    assert_eq!(pair(group.settle()), (8, 160));
     group.buildings[2].length = 0;
-    assert_eq!(pair(settle(&group)), (8, 160));
+    assert_eq!(pair(group.settle()), (8, 160));
     set(&mut group, 0, MONTH, 2);
     group.list_len = 0;
-    assert_eq!(pair(settle(&group)), (8, 160));
+    assert_eq!(pair(group.settle()), (8, 160));
     group.shared_wh = 4_000_000_001;
-    assert_eq!(pair(settle(&group)), (22, 0));
+    assert_eq!(pair(group.settle()), (22, 0));
 }
 
 #[test]

@@ -3,6 +3,7 @@
 //! numbers and lengths.
 
 use compare::book::{BOOK_LEN, SUMS_LEN};
+use compare::charges::{MAX_CHARGE, MODEL_1S, MODEL_2S};
 use compare::group::{Building, MAX_BUILDINGS};
 use compare::sheet::MAX_UNITS;
 use std::mem::{offset_of, size_of};
@@ -119,6 +120,9 @@ fn lengths_and_stack_are_the_programs() {
     assert_eq!(defined("HEATCOST_SUMS_LEN"), SUMS_LEN);
     assert_eq!(defined("HEATCOST_MAX_UNITS"), MAX_UNITS);
     assert_eq!(defined("HEATCOST_MAX_BUILDINGS"), MAX_BUILDINGS);
+    assert_eq!(defined("HEATCOST_MAX_CHARGE"), MAX_CHARGE as usize);
+    assert_eq!(defined("HEATCOST_MODEL_1S"), MODEL_1S as usize);
+    assert_eq!(defined("HEATCOST_MODEL_2S"), MODEL_2S as usize);
     assert_eq!(defined("HEATCOST_TOTALS_LEN"), 9);
     let promised = format!(
         "const PROMISED: usize = {}_{:03};",

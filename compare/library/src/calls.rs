@@ -8,6 +8,8 @@ extern "C" {
     fn heatcost_settle(sheet: *const u8, sheet_len: usize, statement: *mut u32, statement_len: usize) -> u32;
     fn heatcost_settle_group(sheets: *const u8, sheets_len: usize, buildings: *const Building, buildings_len: usize,
         shared_wh: u64, statement: *mut u32, statement_len: usize) -> u32;
+    fn heatcost_fixed_charges(sheet: *const u8, sheet_len: usize, model: u32, power: u32, buyer_fee: u32,
+        supplier_fee: u32, charges: *mut u32, charges_len: usize) -> u32;
     fn heatcost_print(sheet: *const u8, sheet_len: usize, text: *mut u8, text_len: usize) -> u64;
     fn heatcost_write_record(sheet: *const u8, sheet_len: usize, record: *mut u8, record_len: usize) -> u32;
     fn heatcost_read_record(record: *const u8, record_len: usize) -> u32;
@@ -48,6 +50,22 @@ pub fn settle_group(
             buildings.as_ptr(),
             buildings.len(),
             shared_wh,
+            list.as_mut_ptr(),
+            list.len(),
+        )
+    }
+}
+
+pub fn fixed_charges(sheet: &[u8], model: u32, amounts: [u32; 3], list: &mut [u32]) -> u32 {
+    let [power, buyer_fee, supplier_fee] = amounts;
+    unsafe {
+        heatcost_fixed_charges(
+            sheet.as_ptr(),
+            sheet.len(),
+            model,
+            power,
+            buyer_fee,
+            supplier_fee,
             list.as_mut_ptr(),
             list.len(),
         )

@@ -1,12 +1,15 @@
-//! One round: settle, write and read, sometimes a book or a group, and print.
+//! One round: settle, write and read, sometimes a book, a group or charges, and
+//! print.
 
 use crate::books::compare_book;
 use crate::calls;
+use crate::charges::compare_charges;
 use crate::difference::{same, Compared};
 use crate::groups::compare_group;
-use crate::inputs::{list_len, random_bytes, record_to_read, unit_count};
+use crate::inputs::{list_len, random_bytes, record_to_read};
 use crate::side::Side;
 use crate::tally::Tally;
+use compare::damage::unit_count;
 use compare::refusal::BUFFER_LENGTH;
 use compare::rng::Rng;
 
@@ -15,6 +18,8 @@ use compare::rng::Rng;
 const ROUNDS_A_BOOK: u64 = 125;
 /// A group has some four sheets.
 const ROUNDS_A_GROUP: u64 = 6;
+/// Charges are one sheet's, but are to meet each of its refusals too.
+const ROUNDS_A_CHARGE: u64 = 6;
 
 /// The rounds have numbers of their own, so that each can be run alone.
 pub fn compare_round(side: &Side, seed: u64, round: u64, tally: &mut Tally) -> Compared<()> {
@@ -29,6 +34,9 @@ pub fn compare_round(side: &Side, seed: u64, round: u64, tally: &mut Tally) -> C
     }
     if round.is_multiple_of(ROUNDS_A_GROUP) {
         compare_group(side, &mut rng, tally)?;
+    }
+    if round.is_multiple_of(ROUNDS_A_CHARGE) {
+        compare_charges(side, &mut rng, tally)?;
     }
     compare_print(side, &mut rng, &sheet)
 }

@@ -10,7 +10,7 @@ use compare::rng::Rng;
 use compare::rules::RuleSet;
 use compare::samples::random_sheet;
 use compare::settle::settle_bytes;
-use compare::sheet::{build_sheet, get_u16};
+use compare::sheet::build_sheet;
 
 /// A sheet, good or bad, or any bytes.
 pub fn random_bytes(rng: &mut Rng) -> Vec<u8> {
@@ -22,14 +22,6 @@ pub fn random_bytes(rng: &mut Rng) -> Vec<u8> {
         15..=17 => faulty_sheet(rng),
         _ => (0..rng.below(200)).map(|_| rng.draw() as u8).collect(),
     }
-}
-
-/// n as the header has it, at most 160.
-pub fn unit_count(sheet: &[u8]) -> usize {
-    if sheet.len() < 10 {
-        return 0;
-    }
-    usize::from(get_u16(sheet, 8)).min(160)
 }
 
 /// The length that a list should have, sometimes another one.

@@ -13,6 +13,7 @@
 mod bench;
 mod books;
 mod calls;
+mod charges;
 mod comparing;
 mod difference;
 mod groups;

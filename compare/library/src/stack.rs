@@ -1,6 +1,6 @@
 //! The stack that each call needs, measured on a painted stack of its own.
 
-use crate::bench::{buildings_of, group_sheets, settled_sheets};
+use crate::bench::{buildings_of, charge_sheets, group_sheets, settled_sheets};
 use crate::calls;
 use compare::book::{BOOK_LEN, SUMS_LEN};
 use std::arch::asm;
@@ -80,6 +80,7 @@ pub fn measure() -> bool {
                 ))
             }),
         ),
+        ("fixed_charges", charge_need()),
         (
             "print",
             most(&sheets, |s| drop_answer(calls::print(s, &mut text) as u32)),
@@ -119,6 +120,18 @@ fn record_of(sheet: &[u8]) -> Vec<u8> {
     let mut record = vec![0; 2 * sheet.len() - 40];
     calls::write_record(sheet, &mut record);
     record
+}
+
+/// Charges by load and by area.
+fn charge_need() -> usize {
+    let sheets = [1, 2, 8, 100, 160].map(|n| charge_sheets(1, 20, n));
+    let mut list = vec![0; 3 * 160];
+    most(&sheets.concat(), |s| {
+        let list = &mut list[..3 * (s.len() - 48) / 32];
+        for model in [1, 2] {
+            drop_answer(calls::fixed_charges(s, model, [99_999_999; 3], list));
+        }
+    })
 }
 
 /// The calls on a book that was opened with each sheet.

@@ -3,15 +3,20 @@
 
 use crate::ways::Way;
 
-pub const CALLS: [&str; 9] = [
-    "settle", "write", "read", "open", "post", "replace", "withdraw", "year", "group",
+pub const CALLS: [&str; 10] = [
+    "settle", "write", "read", "open", "post", "replace", "withdraw", "year", "group", "charges",
 ];
 /// The numbers of answers, 0 for accepted.
 const NUMBERS: usize = 23;
-/// Those of the group call.
-const GROUP_NUMBERS: [usize; 17] = [0, 1, 2, 3, 4, 5, 6, 7, 8, 9, 10, 11, 12, 13, 20, 21, 22];
-/// A refusal seen less often than this in a million rounds is a gap; in groups
-/// it is looked for by itself.
+/// The calls whose answers are looked for by themselves, and these.
+const NUMBERS_OF: [(&str, &[usize]); 2] = [
+    (
+        "group",
+        &[0, 1, 2, 3, 4, 5, 6, 7, 8, 9, 10, 11, 12, 13, 20, 21, 22],
+    ),
+    ("charges", &[0, 1, 2, 3, 4, 5, 6, 7, 9, 13, 20]),
+];
+/// An answer seen less often than this in a million rounds is a gap.
 const SELDOM: u64 = 1_000;
 
 pub struct Tally {
@@ -66,11 +71,11 @@ impl Tally {
         let total = |number: &usize| self.seen[*number].iter().sum::<u64>();
         let numbers = (0..self.seen.len()).filter(|number| total(number) < SELDOM);
         let mut seldom: Vec<String> = numbers.map(|number| number.to_string()).collect();
-        let in_groups = |number: &usize| self.seen[*number][column("group")];
-        let numbers = GROUP_NUMBERS
-            .iter()
-            .filter(|number| in_groups(number) < SELDOM);
-        seldom.extend(numbers.map(|number| format!("{number} in group")));
+        for (call, numbers) in NUMBERS_OF {
+            let seen = |number: usize| self.seen[number][column(call)];
+            let few = numbers.iter().filter(|number| seen(**number) < SELDOM);
+            seldom.extend(few.map(|number| format!("{number} in {call}")));
+        }
         for (way, row) in &self.ways {
             for call in way.calls() {
                 if row[column(call)] < way.seldom() {

@@ -1,13 +1,18 @@
 //! The ways to answers that have several: 4 by its byte and 20 by what clashes
 //! (request 2026-03), 19 by what is wrong with the sums (request 2026-02), 22 by
 //! what is wrong with the group, and an accepted group by its difference
-//! (request 2026-04).
+//! (request 2026-04); 4, 9, 13 and accepted charges by the call (request
+//! 2026-05).
 
 use compare::book::SUMS_LEN;
+use compare::charge_calls::ChargeCall;
+use compare::charges::{MAX_CHARGE, MODEL_1S};
+use compare::damage::unit_count;
 use compare::group::{difference, MAX_BUILDINGS};
 use compare::groups::{takes_all, Group};
 use compare::ranges::Range;
-use compare::refusal::{BAD_GROUP, FIELD_CONFLICT, HEADER_FIELD};
+use compare::refusal::{BAD_GROUP, BUFFER_LENGTH, FIELD_CONFLICT, HEADER_FIELD, ZERO_DIVISOR};
+use compare::settle::settle_bytes;
 use compare::sheet::{read_sheet, row_fields, Sheet, MAX_WH};
 
 #[derive(Clone, Copy, PartialEq)]
@@ -30,6 +35,19 @@ pub enum Way {
     DeficitPast32Bits,
     /// A common heat goes to 0.
     TakesAll,
+    /// An amount over its limit, by its place.
+    Charge(usize),
+    ChargeModel,
+    NoLoads,
+    NoLoadsNoAmounts,
+    ChargeListShort,
+    ChargeListLong,
+    /// 8n numbers.
+    ChargeListOfStatement,
+    ByLoad,
+    ByArea,
+    /// A month that 8 to 12 refuse.
+    NotSettled,
 }
 
 const OF_GROUPS: [Way; 10] = [
@@ -45,6 +63,21 @@ const OF_GROUPS: [Way; 10] = [
     Way::TakesAll,
 ];
 
+const OF_CHARGES: [Way; 12] = [
+    Way::Charge(0),
+    Way::Charge(1),
+    Way::Charge(2),
+    Way::ChargeModel,
+    Way::NoLoads,
+    Way::NoLoadsNoAmounts,
+    Way::ChargeListShort,
+    Way::ChargeListLong,
+    Way::ChargeListOfStatement,
+    Way::ByLoad,
+    Way::ByArea,
+    Way::NotSettled,
+];
+
 impl Way {
     pub fn all() -> Vec<Way> {
         let bytes = [
@@ -54,6 +87,7 @@ impl Way {
         ways.extend(Range::CLASHES.map(Way::Clash));
         ways.extend([Way::Length, Way::Below, Way::Lifted, Way::Past]);
         ways.extend(OF_GROUPS);
+        ways.extend(OF_CHARGES);
         ways
     }
 
@@ -75,13 +109,23 @@ impl Way {
             Way::Deficit => "0 difference below 0".to_string(),
             Way::DeficitPast32Bits => "0 below, past 32 bits".to_string(),
             Way::TakesAll => "0 common heat to 0".to_string(),
+            Way::Charge(place) => format!("4 amount {place}"),
+            Way::ChargeModel => "4 model of the call".to_string(),
+            Way::NoLoads => "9 something to divide".to_string(),
+            Way::NoLoadsNoAmounts => "9 nothing to divide".to_string(),
+            Way::ChargeListShort => "13 below 3n".to_string(),
+            Way::ChargeListLong => "13 above 3n".to_string(),
+            Way::ChargeListOfStatement => "13 of 8n".to_string(),
+            Way::ByLoad => "0 by load".to_string(),
+            Way::ByArea => "0 by area".to_string(),
+            Way::NotSettled => "0 where 8 to 12 hold".to_string(),
         }
     }
 
     /// A way seen less often than this in a million rounds, in a call that has
     /// it, is a gap.
     pub fn seldom(self) -> u64 {
-        if OF_GROUPS.contains(&self) {
+        if OF_GROUPS.contains(&self) || OF_CHARGES.contains(&self) {
             1_000
         } else {
             100
@@ -92,12 +136,13 @@ impl Way {
     pub fn calls(self) -> &'static [&'static str] {
         match self {
             Way::Header(_) | Way::Clash(_) => &[
-                "settle", "write", "read", "open", "post", "replace", "group",
+                "settle", "write", "read", "open", "post", "replace", "group", "charges",
             ],
             Way::Length => &["open", "post", "replace", "withdraw", "year"],
             Way::Below => &["replace", "withdraw"],
             Way::Lifted => &["replace"],
             Way::Past => &["post", "replace"],
+            way if OF_CHARGES.contains(&way) => &["charges"],
             _ => &["group"],
         }
     }
@@ -151,10 +196,41 @@ impl Way {
         }
     }
 
-    /// The way of a call that 4 or 20 refused, with its sheet.
+    /// The ways of charges by what is the call's own.
+    pub fn of_charges(answer: u32, call: &ChargeCall) -> Vec<Way> {
+        let right_len = 3 * unit_count(&call.sheet);
+        match answer {
+            0 => Way::of_accepted_charges(call),
+            HEADER_FIELD => {
+                let over = |&place: &usize| call.amounts[place] > MAX_CHARGE;
+                let amount = (0..3).find(over).map(Way::Charge);
+                vec![amount.unwrap_or(Way::ChargeModel)]
+            }
+            ZERO_DIVISOR if call.amounts == [0; 3] => vec![Way::NoLoadsNoAmounts],
+            ZERO_DIVISOR => vec![Way::NoLoads],
+            BUFFER_LENGTH if 3 * call.list_len == 8 * right_len => {
+                vec![Way::ChargeListOfStatement]
+            }
+            BUFFER_LENGTH if call.list_len < right_len => vec![Way::ChargeListShort],
+            BUFFER_LENGTH => vec![Way::ChargeListLong],
+            _ => Vec::new(),
+        }
+    }
+
+    fn of_accepted_charges(call: &ChargeCall) -> Vec<Way> {
+        let by_load = call.model == MODEL_1S;
+        let mut ways = vec![if by_load { Way::ByLoad } else { Way::ByArea }];
+        if settle_bytes(&call.sheet).is_err() {
+            ways.push(Way::NotSettled);
+        }
+        ways
+    }
+
+    /// The way of a call that 4 or 20 refused, with its sheet; the charges' own 4
+    /// has no byte.
     pub fn of_sheet(answer: u32, sheet: &[u8]) -> Option<Way> {
         match (answer % 256, answer / 256) {
-            (HEADER_FIELD, byte) => Some(Way::Header(byte)),
+            (HEADER_FIELD, byte @ 1..) => Some(Way::Header(byte)),
             (FIELD_CONFLICT, row) => {
                 let sheet = read_sheet(sheet);
                 let fields = row_fields(&sheet.header, &sheet.units[row as usize]);

@@ -1,8 +1,7 @@
 //! The year book and the sums beside it.
 
-use super::header::Header;
 use super::month::Month;
-use super::rows::{check_and_sum, Row};
+use super::rows::{checked_rows, Row};
 use crate::book::{
     YearSums, BILLS, BLOCKS, BLOCK_LEN, BOOK_LEN, IDS, MARKS, METERS, SUMS_LEN, UNIT_COUNT,
 };
@@ -14,9 +13,7 @@ type Sums = [u64; SUMS_LEN];
 
 pub fn open(list: &mut [u32], sums: &mut [u64], sheet: &[u8]) -> Result<(), Refusal> {
     refuse_if(list.len() != BOOK_LEN, BAD_YEAR_BOOK)?;
-    let header = Header::of(sheet, 32)?;
-    let (rows, _) = sheet[48..].as_chunks::<32>();
-    check_and_sum(&header, rows)?;
+    let (rows, _) = checked_rows(sheet)?;
     refuse_if(sums.len() != SUMS_LEN, BAD_YEAR_SUMS)?;
     list.fill(0);
     list[UNIT_COUNT] = rows.len() as u32;

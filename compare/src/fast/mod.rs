@@ -3,6 +3,7 @@
 //! largest remainders are selected without a sort.
 
 pub mod book;
+pub mod charges;
 pub mod dividing;
 pub mod group;
 pub mod header;

@@ -169,6 +169,14 @@ impl Highest {
     }
 }
 
+/// The rows of a sheet that passes 1 to 7 and 20, and their sums.
+pub fn checked_rows(sheet: &[u8]) -> Result<(&[[u8; 32]], Sums), Refusal> {
+    let header = Header::of(sheet, 32)?;
+    let (rows, _) = sheet[48..].as_chunks::<32>();
+    let sums = check_and_sum(&header, rows)?;
+    Ok((rows, sums))
+}
+
 /// Refusals 6, 20 and 7, and the sums of rows that pass.
 pub fn check_and_sum(header: &Header, rows: &[[u8; 32]]) -> Result<Sums, Refusal> {
     let highest = Highest::of(header);

@@ -454,6 +454,59 @@ readings! {
     LastBuildingFirst "statements from the last building",
     RefusedGroupZeroes "a refused group zeroes the list",
     RefusedGroupHasWritten "a group refused by 21 has written",
+
+    // Request 2026-05, what the amounts are divided by
+    ChargeBySheetModel "charges by the sheet's model, not by the call's",
+    ChargeAlwaysByArea "charges under 1S by p",
+    ChargeAlwaysByLoad "charges under 2S by q",
+    FeesByArea "the two fees always by p",
+    FeesEqually "the two fees in equal parts",
+    ChargeWithFactor "charges under 2S by p x KF",
+    ChargeOfReadUnits "no charges for units not read",
+
+    // Request 2026-05, amounts and model
+    ChargeLimitExcluded "an amount of 100,000,000 is 4",
+    ChargeLimitPlusOne "an amount of 100,000,001 accepted",
+    ChargeLimitOfPower "the fees' limits not tested",
+    ChargeLimitOfFees "power's limit not tested",
+    ChargeLimitOfSum "the limit is that of the three amounts together",
+    ChargeModelFromZero "1S is a 0 in the call, 2S a 1",
+    ChargeModelElse "every model of the call above 1 is 2S",
+    ChargeModelIn8Bits "only the lower byte of the call's model taken",
+    ChargeModelOfSheet "4 for a model of the call that isn't the sheet's",
+    ChargeModelAtByte7 "the call's model refused at byte 7",
+    ChargeAmountWithPlace "an amount refused at its place, 1 to 3",
+
+    // Request 2026-05, the other refusals
+    ChargeSheetPlaceZero "the sheet's own refusals of charges at place 0",
+    ChargeClashPasses "20 not tested for charges",
+    ChargeOfSettledMonth "8 to 12 refuse charges too",
+    ChargeBeforeSheet "amounts and the call's model tested before the sheet",
+    ChargeListFirst "13 of charges tested before the sheet",
+    ChargeListBeforeCall "13 of charges tested before their 4",
+    ChargeListBeforeLoads "13 of charges tested before 9",
+    LoadsBeforeCall "9 of charges tested before their 4",
+    AmountsAfterLoads "amounts tested after 9",
+    LoadsWithAmounts "9 of charges only when there is something to divide",
+    LoadsOf2S "9 of charges also under 2S",
+    LoadsOneZero "9 of charges when one q is 0",
+    LoadsOfSheetModel1 "9 of charges only for a sheet of model 1",
+    LoadsOfZeroByArea "charges under 1S with all q 0 by p",
+    ChargeListOf8 "13 of charges wants 8n numbers",
+    ChargeLongerList "a list of charges may be longer",
+
+    // Request 2026-05, the list
+    PowerAndBuyerSwapped "power and buyer's fee in each other's column",
+    PowerAndSupplierSwapped "power and supplier's fee in each other's column",
+    FeesSwapped "the two fees in each other's column",
+    ColumnByColumn "charges column by column",
+    ChargesAsOneSum "the three amounts divided as one sum",
+    ChargeLeftoverToLast "a charge's leftover to the last unit",
+    ChargeLeftoverToFirst "a charge's leftover to the first unit",
+    ChargeTiesToLater "ties of charges to the later unit",
+    ChargeHalfUpEach "each charge half up, no leftover",
+    RefusedChargesZero "refused charges zero the list",
+    RefusedChargesHaveWritten "charges refused by 13 have written",
 }
 
 impl Reading {

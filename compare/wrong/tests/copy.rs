@@ -2,6 +2,7 @@
 //! have types of their own, so that answers are compared as they print.
 
 use compare::calls::{random_call, sheet_of_building, Call};
+use compare::charge_calls::random_charge_call;
 use compare::damage::damaged_sheet;
 use compare::edges::{border_sheet, sheet_at_an_end};
 use compare::faults::faulty_sheet;
@@ -91,6 +92,22 @@ fn groups() {
                 group.shared_wh,
                 &mut plain,
             ),
+        );
+        assert_eq!(copy, plain);
+    }
+}
+
+#[test]
+fn charges() {
+    let mut rng = Rng::new(4);
+    for _ in 0..8_000 {
+        let call = random_charge_call(&mut rng);
+        let (sheet, model, amounts) = (&call.sheet, call.model, call.amounts);
+        let mut copy = vec![9; call.list_len];
+        let mut plain = copy.clone();
+        same(
+            wrong::charges::fixed_charges_into(sheet, model, amounts, &mut copy),
+            compare::charges::fixed_charges_into(sheet, model, amounts, &mut plain),
         );
         assert_eq!(copy, plain);
     }

@@ -6,6 +6,7 @@
 
 mod books;
 mod cases;
+mod charges;
 #[cfg(feature = "division")]
 mod divisions;
 mod groups;
@@ -13,8 +14,10 @@ mod lists;
 mod settling;
 
 pub use cases::settled_sheets;
+pub use charges::charge_sheets;
 pub use groups::{buildings_of, group_sheets};
 
+use std::hint::black_box;
 use std::time::{Duration, Instant};
 
 const TURNS: usize = 25;
@@ -37,6 +40,31 @@ fn print_line(name: &str, items: usize, mut sides: [Side; 3]) {
         "{name:34} {library:9.1} {division:9.1} {:6.2} {reciprocal:11.1} {:6.2}",
         library / division,
         library / reciprocal
+    );
+}
+
+/// The same for calls on sheets, each side with a list of `len` numbers.
+fn print_sheets(
+    name: &str,
+    sheets: &[Vec<u8>],
+    len: usize,
+    sides: [&dyn Fn(&[u8], &mut [u32]); 3],
+) {
+    let mut lists = sides.map(|_| vec![0; len]);
+    let [a, b, c] = &mut lists;
+    let each = |side: usize, list: &mut [u32]| {
+        for sheet in sheets {
+            sides[side](black_box(sheet), list);
+        }
+    };
+    print_line(
+        name,
+        sheets.len(),
+        [&mut || each(0, a), &mut || each(1, b), &mut || each(2, c)],
+    );
+    assert!(
+        lists[0] == lists[1] && lists[0] == lists[2],
+        "the sides answer alike"
     );
 }
 
@@ -79,6 +107,7 @@ pub fn run(seed: u64) {
     println!("nanoseconds, best of {TURNS}");
     settling::run(seed);
     groups::run(seed);
+    charges::run(seed);
     lists::run(seed);
     #[cfg(feature = "division")]
     divisions::run(seed);

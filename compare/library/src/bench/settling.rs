@@ -1,7 +1,7 @@
 //! Whole settlements: sheet in, statement out.
 
 use super::cases::{changed_sheets, equal_units, half_unread, no_readings, settled_sheets};
-use super::{best_times, print_head, print_line};
+use super::{best_times, print_head, print_sheets};
 use crate::calls;
 use compare::fast;
 use std::hint::black_box;
@@ -39,27 +39,22 @@ pub fn run(seed: u64) {
 }
 
 fn print_settle(name: &str, sheets: &[Vec<u8>]) {
-    let len = (sheets[0].len() - 48) / 4;
-    let [mut a, mut b, mut c] = [vec![0; len], vec![0; len], vec![0; len]];
-    let each = |call: &mut dyn FnMut(&[u8])| sheets.iter().for_each(|sheet| call(black_box(sheet)));
-    let mut library = || {
-        each(&mut |sheet| {
-            black_box(calls::settle(sheet, &mut a));
-        })
-    };
-    let mut division = || {
-        each(&mut |sheet| {
-            black_box(fast::settle::<false>(sheet, &mut b)).ok();
-        })
-    };
-    let mut reciprocal = || {
-        each(&mut |sheet| {
-            black_box(fast::settle::<true>(sheet, &mut c)).ok();
-        })
-    };
-    let sides = [&mut library as _, &mut division as _, &mut reciprocal as _];
-    print_line(name, sheets.len(), sides);
-    assert!(a == b && a == c, "the sides settle alike");
+    print_sheets(
+        name,
+        sheets,
+        (sheets[0].len() - 48) / 4,
+        [
+            &|sheet, list| {
+                black_box(calls::settle(sheet, list));
+            },
+            &|sheet, list| {
+                black_box(fast::settle::<false>(sheet, list)).ok();
+            },
+            &|sheet, list| {
+                black_box(fast::settle::<true>(sheet, list)).ok();
+            },
+        ],
+    );
 }
 
 /// The forty sheets with the largest ratios among many, each measured shortly.

@@ -2,20 +2,17 @@
 mod refused;
 mod settled;
 
-use compare::cases::case_a;
-use compare::group::{settle_group, MAX_BUILDINGS};
+use compare::cases::{building, by_area, by_meters, case_a};
+use compare::group::MAX_BUILDINGS;
 use compare::groups::{random_group, Group};
-use compare::refusal::Refusal;
 use compare::rng::Rng;
-use compare::sheet::{Header, Sheet, Unit};
-use compare::vectors::{digest, group_bytes, pack, write_files};
+use compare::sheet::{Sheet, Unit};
+use compare::vectors::{group_bytes, list_line, pack, write_files};
 
 /// What a vector may have at most.
 const MOST_BYTES: usize = 15_999;
 const MOST_BUILDINGS: usize = MAX_BUILDINGS + 1;
 const MOST_NUMBERS: usize = 8 * 320 + 1;
-/// An accepted group's numbers are printed up to this many.
-const PRINTED: usize = 64;
 
 /// The list of groups under construction.
 struct Groups(Vec<Group>);
@@ -57,62 +54,13 @@ fn fits(group: &Group) -> bool {
         && group_bytes(group).len() <= MOST_BYTES
 }
 
-/// A sheet for January at case A's price, a row for each area and reading.
-fn building(model: u8, meter: u32, rows: &[(u32, u32)]) -> Sheet {
-    let unit = |(place, &(heated_area, reading)): (usize, &(u32, u32))| Unit {
-        id: 21 + place as u32,
-        location_factor: 1_000,
-        heated_area,
-        reading,
-        ..Unit::default()
-    };
-    Sheet {
-        header: Header {
-            month: 1,
-            model,
-            unit_count: rows.len() as u16,
-            unmetered_factor: if model >= 3 { 30 } else { 0 },
-            shared_meter_wh: meter,
-            price: 10_000,
-            ..Header::default()
-        },
-        units: rows.iter().enumerate().map(unit).collect(),
-    }
-}
-
-/// Without common heat.
-fn by_area() -> Sheet {
-    building(2, 500_000, &[(400, 0), (600, 0)])
-}
-
-/// 100,000 Wh of common heat.
-fn by_meters() -> Sheet {
-    building(5, 500_000, &[(400, 150_000), (600, 250_000)])
-}
-
 /// Three times case A.
 fn three() -> Group {
     Group::of(&[case_a(), case_a(), case_a()], 3_000_000)
 }
 
 fn line(group: &Group) -> String {
-    let list = (1..=group.list_len as u64)
-        .collect::<Vec<u64>>()
-        .into_iter();
-    let answer = settle_group(
-        &group.buffer,
-        &group.buildings,
-        group.shared_wh,
-        group.list_len,
-    );
-    match answer {
-        Ok(numbers) if numbers.len() <= PRINTED => {
-            let words: String = numbers.iter().map(|number| format!(" {number}")).collect();
-            format!("0 0{words}\n")
-        }
-        Ok(numbers) => format!("0 0 {}\n", digest(numbers.into_iter().map(u64::from))),
-        Err(Refusal { number, place }) => format!("{number} {place} {}\n", digest(list)),
-    }
+    list_line(group.settle(), group.list_len)
 }
 
 fn main() {

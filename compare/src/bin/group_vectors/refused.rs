@@ -1,7 +1,7 @@
 //! Refusals of groups, alone and two at once.
 
 use super::*;
-use compare::cases::two_units;
+use compare::cases::refused_months;
 use compare::damage::put;
 use compare::group::Building;
 use compare::samples::good_sheet;
@@ -160,20 +160,4 @@ impl Groups {
             self.add_changed(&three(), |group| group.list_len = list_len);
         }
     }
-}
-
-/// Sheets that 8, 9, 10, 11 and 12 refuse, for January at case A's price.
-fn refused_months() -> Vec<Sheet> {
-    let mut water = case_a();
-    water.header.source = 1;
-    water.header.hot_water_inputs[0] = 1_000_001;
-    let mut divisor = water.clone();
-    divisor.header.hot_water_inputs[0] = 1;
-    let mut unread = case_a();
-    for unit in &mut unread.units {
-        (unit.status, unit.reading) = (3, 0);
-    }
-    let mut meters = by_meters();
-    meters.header.shared_meter_wh = 399_999;
-    vec![water, divisor, unread, meters, two_units(31)]
 }

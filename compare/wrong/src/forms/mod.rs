@@ -3,6 +3,7 @@
 
 pub mod bill;
 pub mod book;
+pub mod charges;
 pub mod difference;
 pub mod dividing;
 pub mod group;
