@@ -1,4 +1,4 @@
-// Why a sheet or a call is refused (document 01, "Refused sheets and calls", 19 by request 2026-02, 20 by 2026-03, 21 and 22 by 2026-04). The row cases hold the row's place, from 0; the header case holds the byte offset in the sheet.
+// Why a sheet or a call is refused (document 01, "Refused sheets and calls", 19 by request 2026-02, 20 by 2026-03, 21 and 22 by 2026-04). The row cases hold the row's place, from 0; the header case holds the byte offset in the sheet, or 0 where it is about what a call is given beside it (2026-05).
 ghost use mathlib.Core.Path.{_≡_};
 ghost use Rattle.sheet.specs.Refusals.{numberOf, placeOf};
 
@@ -32,7 +32,7 @@ pub enum Outcome {
     Refused(Refusal),
 }
 
-// What a refusal tells: the document's number; the row from 0 for 6, 7 and 20, the byte offset for 4, else 0.
+// What a refusal tells: the document's number; the row from 0 for 6, 7 and 20, what 4 holds, else 0.
 struct Told(u32, u32);
 
 fn told_by(r: Refusal) -> Told
