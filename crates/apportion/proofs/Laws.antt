@@ -11,7 +11,7 @@ use Rattle.apportion.specs.Shares.{sum, quota, quotas, remainder, leftover, at_l
 use Rattle.apportion.specs.Fair.{Fair, RanksRemainders, EveryDivisionIsFair}
 use Rattle.apportion.proofs.Counting.{bit-yes, bit_no, bit-cases, antitone}
 use Rattle.apportion.proofs.Takers.{sum-extras, length-extras}
-use Rattle.apportion.proofs.Leftover.{length-added, sum_added, get_d_added, item_le, get_d_map, quotas_le, leftover_le, leftover-fits}
+use Rattle.apportion.proofs.Leftover.{length-added, sum_added, get_d_added, item_le, get_or-map, quotas_le, leftover_le, leftover-fits}
 
 -- ---- nothing to divide
 pub all-zero : (f : ℕ → ℕ) → ((w : ℕ) → f w ≡ 0) → (ws : List ℕ) → map f ws ≡ replicate (length ws) 0
@@ -117,7 +117,7 @@ module _ (key : Key) (ranks : RanksRemainders key) (total : ℕ) (ws : List ℕ)
       let xs = extras (leftover total ws) [] ks in (
         get_or xs i 0,
         get_d_added (quotas total ws) xs i (not-longer key total ws)
-            ∙ ap (λ (x : ℕ). x + get_or xs i 0) (get_d_map (quota total (sum ws)) ws i (ap (λ (x : ℕ). x / sum ws) (mul-zero total) ∙ zero-div (sum ws))),
+            ∙ ap (λ (x : ℕ). x + get_or xs i 0) (get_or-map (quota total (sum ws)) ws i (ap (λ (x : ℕ). x / sum ws) (mul-zero total) ∙ zero-div (sum ws))),
         extra_le key ranks total (sum ws) (leftover total ws) [] ws i (item_le ws) (omega (arith, leftover_le total ws hp)),
       )
 

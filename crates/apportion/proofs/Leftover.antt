@@ -36,8 +36,8 @@ item_le [] i = omega arith
 item_le (w ∷ ws) zero = omega arith
 item_le (w ∷ ws) (suc i) = omega (arith, item_le ws i)
 
-pub get_d_map : (f : ℕ → ℕ) (ws : List ℕ) (i : ℕ) → f 0 ≡ 0 → get_or (map f ws) i 0 ≡ f (get_or ws i 0)
-get_d_map f ws i e = subst (λ (d : ℕ). get_or (map f ws) i d ≡ f (get_or ws i 0)) e (ListN.get_d_map f ws i 0)
+pub get_or-map : (f : ℕ → ℕ) (ws : List ℕ) (i : ℕ) → f 0 ≡ 0 → get_or (map f ws) i 0 ≡ f (get_or ws i 0)
+get_or-map f ws i e = subst (λ (d : ℕ). get_or (map f ws) i d ≡ f (get_or ws i 0)) e (ListN.get_or-map f ws i 0)
 
 -- ---- quotas and remainders
 pub quota_le : (total whole w : ℕ) → 0 < whole → w ≤ whole → quota total whole w ≤ total

@@ -1,4 +1,6 @@
 // Dividing a whole by weights, exactly, by the largest-remainder method (document 01, "Dividing").
+#![tactic(auto)]
+
 mod narrowing;
 mod order;
 mod quotas;

@@ -6,7 +6,7 @@ ghost use Rattle.apportion.specs.Inner.Selection.{Counted, CountedWith, Cuts};
 use super::order::{larger, smaller};
 
 // How many keys reach a number m. No key lies from `below` up to m, nor from m up to `above`.
-#[derive(Drop)]
+#[derive(Clone, Copy)]
 pub struct Count {
     pub count: u64,
     pub below: u64,
@@ -75,7 +75,7 @@ fn guess(lo: u64, hi: u64, among: u64, wanted: u64, turn: u64) -> u64
 }
 
 // A threshold, and how many are to be spared for the keys that equal it.
-#[derive(Drop)]
+#[derive(Clone, Copy)]
 pub struct Cut {
     pub theta: u64,
     pub spare: u64,

@@ -26,7 +26,7 @@ pub(crate) fn one_if(b: bool) -> u64
 }
 
 // The sum of the quotas, the largest remainder, and how many remainders are above 0.
-#[derive(Drop)]
+#[derive(Clone, Copy)]
 pub struct Down {
     pub sum: u64,
     pub largest: u64,

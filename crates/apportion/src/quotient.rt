@@ -1,7 +1,7 @@
 // The exact quotient and remainder of t × w / W beyond 64 bits, by one machine division.
 ghost use Rattle.std.specs.Prelude.{◌≡◌, ◌+◌, ◌*◌, ◌/◌, ◌%◌, ◌^◌, ◌≤◌, ◌<◌};
 
-#[derive(Drop)]
+#[derive(Clone, Copy)]
 pub struct Division {
     pub quotient: u64,
     pub remainder: u64,

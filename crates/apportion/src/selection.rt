@@ -8,7 +8,7 @@ use super::order::{larger, smaller};
 use super::quotas::one_if;
 
 // How many keys lie above a bracket, and how many in it.
-#[derive(Drop)]
+#[derive(Clone, Copy)]
 pub struct Split {
     pub above: u64,
     pub within: u64,
@@ -34,7 +34,7 @@ fn collect(keys: &[u64], lo: u64, hi: u64, near: &mut [u64]) -> Split
     Split { above, within }
 }
 
-#[derive(Drop)]
+#[derive(Clone, Copy)]
 struct Bracket {
     lo: u64,
     hi: u64,

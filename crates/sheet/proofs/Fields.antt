@@ -1,4 +1,5 @@
 -- Where the fields stand: what the reads of header and rows by a field's number use. Assumes nothing.
+use Rattle.std.specs.Prelude.{if◌then◌else◌}
 use mathlib.Core.Path.{◌≡◌, refl, sym, ap, subst, ◌∙◌}
 use mathlib.Core.Bool.{Bool, true, false}
 use mathlib.Core.List.{List, [], ◌∷◌}
@@ -8,7 +9,6 @@ use borrow.Author.Tests.{le-leb, lt-leb, leb-true, leb-false}
 use lib.Dec.{leb}
 use lib.ListN.{length, take, drop}
 use lib.Seq.{get_or-take, get_or-drop}
-use Rattle.sheet.specs.Tests.{if◌then◌else◌}
 use Rattle.sheet.specs.Layout.{unit_row, sheet_of, byte, le16, le32}
 use Rattle.sheet.specs.Check.{header_tests}
 use Rattle.sheet.specs.Inner.Fields.{unit_row_at, row_field, header_field, field_at}

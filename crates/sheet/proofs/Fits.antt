@@ -1,4 +1,5 @@
 -- A sheet that passes 1 to 7 and 20 has what specs/Inner/Fits.antt lists. Assumes nothing.
+use Rattle.std.specs.Prelude.{if◌then◌else◌}
 use mathlib.Core.Path.{◌≡◌, refl, subst}
 use mathlib.Core.Bool.{Bool, true, false, ◌&&◌}
 use mathlib.Core.List.{List, [], ◌∷◌, map}
@@ -11,7 +12,7 @@ use lib.Seq.{get_or-take}
 use borrow.Author.Tests.{leb-true, leb-false, eqb-true, ne_eqb, not-false}
 use Rattle.sheet.specs.declared.ranges.Range.{Range}
 use Rattle.sheet.specs.declared.refusal.Outcome.TheVariants.{Accepted}
-use Rattle.sheet.specs.Tests.{if◌then◌else◌, Each}
+use Rattle.sheet.specs.Tests.{Each}
 use Rattle.sheet.specs.Layout.{UnitRow, Sheet, sheet_of, water_reading}
 use Rattle.sheet.specs.Check.{entry, ◌to◌, ◌within◌, ◌offset◌, header_tests, header_rule, row_tests, field_rules, row_rules, sheet_rules, checked, base_percent_ranges, common_heat_ranges, unmetered_factor_ranges, common_water_ranges, loss_factor_ranges, first_water_reading_ranges, other_water_reading_ranges, status_ranges, water_class_ranges, reading_ranges, litres_ranges, persons_ranges}
 use Rattle.sheet.specs.Inner.Fits.{InRange, Increasing, id_of, UnitFits, HeaderFits, Fits}

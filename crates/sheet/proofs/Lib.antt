@@ -4,9 +4,7 @@ pub mod Rules
 pub mod Units
 pub mod Fits
 pub mod Verdict
-pub mod ByHand
 mod Fields
-mod View
 mod Narrow
 mod Walk
 pub mod Places

@@ -1,4 +1,5 @@
 -- What is allowed of a row's field lies within its fixed range, so one test passes both 6 and 20. Assumes nothing.
+use Rattle.std.specs.Prelude.{if◌then◌else◌}
 use mathlib.Core.Path.{◌≡◌, refl}
 use mathlib.Core.Bool.{Bool, true}
 use mathlib.Core.List.{List}
@@ -6,7 +7,7 @@ use Prim.Native.Nat.{ℕ, ◌≤◌}
 use native.Mathlib.Omega.{arith}
 use lib.Dec.{eqb}
 use Rattle.sheet.specs.declared.ranges.Range.{Range}
-use Rattle.sheet.specs.Tests.{if◌then◌else◌, Each}
+use Rattle.sheet.specs.Tests.{Each}
 use Rattle.sheet.specs.Layout.{UnitRow, Sheet}
 use Rattle.sheet.specs.Check.{RowTest, ◌to◌, ◌within◌, passes, entry, row_tests, status_ranges, water_class_ranges, reading_ranges, litres_ranges, persons_ranges}
 use Rattle.sheet.specs.Inner.FieldRanges.{value_of, fixed_range, allowed}

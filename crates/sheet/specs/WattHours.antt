@@ -1,9 +1,8 @@
 -- Amounts of Wh (document 01, "Dividing"): a zero, an upper end, and an addition that answers `over` past it, without an amount.
-use Rattle.std.specs.Prelude.{ℕ, ◌+◌, leb}
+use Rattle.std.specs.Prelude.{ℕ, ◌+◌, leb, if◌then◌else◌}
 use Rattle.sheet.specs.declared.watt_hours.Wh.{Wh}
 use Rattle.sheet.specs.declared.watt_hours.Sum.{Sum}
 use Rattle.sheet.specs.declared.watt_hours.Sum.TheVariants.{Amount, Over}
-use Rattle.sheet.specs.Tests.{if◌then◌else◌}
 
 abbrev pub highest_wh : ℕ
 highest_wh = 4000000000

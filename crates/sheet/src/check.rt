@@ -12,6 +12,7 @@ use crate::rows::unit_field;
 use crate::{bytes, header, ranges, rows};
 
 // 2: `HCS` and a zero.
+#[tactic(auto, using(crate::proofs::Fields::four_bytes))]
 fn magic_fits(s: &[u8]) -> bool
     requires { 4 ≤ length s.now }
     ensures { result ≡ same_list (take 4 s.now) sheet_magic }

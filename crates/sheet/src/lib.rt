@@ -1,4 +1,6 @@
 // The sheet of one building month: layout, ranges, refusals 1 to 7 (document 01, "The sheet").
+#![tactic(auto)]
+
 pub mod bytes;
 mod check;
 pub mod header;

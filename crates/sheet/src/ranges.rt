@@ -1,8 +1,7 @@
 // Lowest and highest value of each field (document 01, "The sheet").
-ghost use Rattle.std.specs.Prelude.{◌≡◌, map, ◌+◌, ◌*◌, ◌≤◌, ◌<◌, eqb, length};
+ghost use Rattle.std.specs.Prelude.{◌≡◌, map, ◌+◌, ◌*◌, ◌≤◌, ◌<◌, eqb, length, if◌then◌else◌};
 ghost use Rattle.sheet.specs.Layout.{sheet_of};
 ghost use Rattle.sheet.specs.Check.{passes, ◌within◌, ◌to◌, entry, header_tests, row_tests};
-ghost use Rattle.sheet.specs.Tests.{if◌then◌else◌};
 ghost use Rattle.sheet.specs.Inner.Fields.{unit_of};
 ghost use Rattle.sheet.specs.Inner.FieldRanges.{header_range, allowed, row_ranges, refusal_by, LimitsOf};
 
@@ -11,7 +10,7 @@ use crate::refusal::Refusal;
 use crate::rows::unit_field;
 use crate::{header, rows, tables};
 
-#[derive(Drop)]
+#[derive(Clone, Copy)]
 pub struct Range {
     pub low: u32,
     pub high: u32,
@@ -89,7 +88,7 @@ pub fn header_ranges(s: &[u8]) -> [Range; 17]
 }
 
 // What model and source allow in every row.
-#[derive(Drop)]
+#[derive(Clone, Copy)]
 pub struct RowLimits {
     pub status: Range,
     pub class: Range,

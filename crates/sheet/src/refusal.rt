@@ -2,7 +2,7 @@
 ghost use Rattle.std.specs.Prelude.{◌≡◌};
 ghost use Rattle.sheet.specs.Refusals.{number_of, place_of};
 
-#[derive(Drop)]
+#[derive(Clone, Copy)]
 pub enum Refusal {
     TooShort,
     BadMagic,
@@ -28,14 +28,14 @@ pub enum Refusal {
     BadGroup,
 }
 
-#[derive(Drop)]
+#[derive(Clone, Copy)]
 pub enum Outcome {
     Accepted,
     Refused(Refusal),
 }
 
 // What a refusal tells: the document's number; the row from 0 for 6, 7 and 20, what 4 holds, else 0.
-#[derive(Drop)]
+#[derive(Clone, Copy)]
 struct Told(u32, u32);
 
 fn told_by(r: Refusal) -> Told

@@ -28,7 +28,7 @@ pub const PERSONS: usize = 9;
 pub const RESERVED: usize = 10;
 
 // A row is looked at through this view: the sheet's bytes, and where the row starts in them.
-#[derive(Drop)]
+#[derive(Clone, Copy)]
 pub struct RowView<'a> {
     pub sheet: &'a [u8],
     pub start: usize,
@@ -76,7 +76,7 @@ pub fn field<'a>(row: RowView<'a>, k: usize) -> u32
     field_at(row.sheet, row.start, k)
 }
 
-// The same of the row that starts at byte `start`: a caller that holds no view needs no walk by hand.
+// The same of the row that starts at byte `start`, for a caller that holds no view.
 pub fn row_field(s: &[u8], start: usize, k: usize) -> u32
     ensures { result ≡ field_at s.now start k }
 {

@@ -2,7 +2,7 @@
 ghost use Rattle.std.specs.Prelude.{◌≡◌};
 ghost use Rattle.sheet.specs.RuleSets.{limits_risers};
 
-#[derive(Drop)]
+#[derive(Clone, Copy)]
 pub enum RuleSet {
     Archive1,
     Archive2,

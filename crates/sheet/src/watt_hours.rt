@@ -5,10 +5,10 @@ ghost use Rattle.sheet.specs.declared.watt_hours.Sum.TheVariants.{Amount};
 ghost use Rattle.sheet.specs.Inner.Sums.{plus_sum, past_sum, wh_in_sum};
 
 // Its number is private: only `of` and `plus` make an amount, and neither makes one past MAX.
-#[derive(Drop)]
+#[derive(Clone, Copy)]
 pub struct Wh(u32);
 
-#[derive(Drop)]
+#[derive(Clone, Copy)]
 pub enum Sum {
     Amount(Wh),
     Over,

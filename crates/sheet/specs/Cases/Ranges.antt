@@ -1,11 +1,10 @@
 -- Computed cases of the ranges (document 01, "The sheet"; 2026-03), from the bytes on: each field passes at its lowest and its highest number, and not one below or one above; a clash is told
 -- from its lowest to its highest number. One table, one theorem.
-use Rattle.std.specs.Prelude.{◌≡◌, refl, List, [], ◌∷◌, ◌++◌, map, ℕ, zero, suc, ◌+◌, ◌-◌, ◌/◌, ◌%◌, eqb, get_or, take}
+use Rattle.std.specs.Prelude.{◌≡◌, refl, List, [], ◌∷◌, ◌++◌, map, ℕ, zero, suc, ◌+◌, ◌-◌, ◌/◌, ◌%◌, eqb, get_or, take, if◌then◌else◌}
 use Rattle.sheet.specs.declared.refusal.Refusal.{Refusal}
 use Rattle.sheet.specs.declared.refusal.Outcome.{Outcome}
 use Rattle.sheet.specs.declared.refusal.Outcome.TheVariants.{Accepted, Refused}
 use Rattle.sheet.specs.declared.refusal.Refusal.TheVariants.{HeaderField, WrongLength, RowField, FieldConflict}
-use Rattle.sheet.specs.Tests.{if◌then◌else◌}
 use Rattle.sheet.specs.Refusals.{first_refusal}
 use Rattle.sheet.specs.Layout.{in_bytes, unit_row, rows, sheet_of}
 use Rattle.sheet.specs.Check.{header_tests, row_tests, field_rules, row_rules, sheet_rules, checked}
