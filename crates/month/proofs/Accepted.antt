@@ -1,4 +1,5 @@
 -- A sheet that no refusal meets has what specs/Accepted.antt lists, and its divisions have weights. Assumes nothing.
+use Rattle.std.specs.Prelude.{if◌then◌else◌}
 use mathlib.Core.Path.{◌≡◌, refl}
 use mathlib.Core.Bool.{Bool, true, false, ◌&&◌}
 use mathlib.Core.Logic.{◌⊎◌, inl, inr}
@@ -12,7 +13,7 @@ use lib.Dec.{ltb, leb, eqb}
 use lib.ListN.{length}
 use Rattle.apportion.specs.Shares.{sum}
 use Rattle.sheet.specs.declared.refusal.Outcome.TheVariants.{Accepted}
-use Rattle.sheet.specs.Tests.{if◌then◌else◌, Each}
+use Rattle.sheet.specs.Tests.{Each}
 use Rattle.sheet.specs.Refusals.{first_refusal}
 use Rattle.sheet.specs.declared.rule_set.RuleSet.{RuleSet}
 use Rattle.sheet.specs.RuleSets.{limits_risers}

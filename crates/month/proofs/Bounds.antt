@@ -1,4 +1,5 @@
 -- The bounds of specs/Inner/Bounds.antt, for a sheet that passes 1 to 7. Assumes nothing.
+use Rattle.std.specs.Prelude.{if◌then◌else◌}
 use mathlib.Core.Path.{◌≡◌}
 use mathlib.Core.Bool.{Bool, true, false, not, ◌&&◌, ◌||◌}
 use mathlib.Core.Logic.{inl, inr}
@@ -14,7 +15,7 @@ use Rattle.sheet.specs.declared.rule_set.RuleSet.{RuleSet}
 use Rattle.sheet.specs.RuleSets.{limits_risers}
 use Rattle.sheet.specs.Layout.{UnitRow, Sheet}
 use Rattle.sheet.specs.Inner.Fits.{UnitFits}
-use Rattle.sheet.specs.Tests.{if◌then◌else◌, Each}
+use Rattle.sheet.specs.Tests.{Each}
 use Rattle.month.specs.Weights.{those, sum_of, is_read, metered_sum, total_area, unread_weight, unread_weights, pool_weight, reading_sum, read_area, read_surface, r_by, limited, area_weight, surface_weight, read_weight, read_weights, units_of_class, litres_of_class1, persons_of_class2, water_weight, common_water_weight}
 use Rattle.month.specs.Month.{bill_cents}
 use Rattle.month.specs.Inner.Accepted.{CheckedSheet}

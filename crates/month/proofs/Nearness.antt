@@ -1,4 +1,5 @@
 -- Laws of `Near`: whole numbers near fractions. Assumes nothing.
+use Rattle.std.specs.Prelude.{if◌then◌else◌}
 use mathlib.Core.Path.{◌≡◌, refl, ap}
 use mathlib.Core.Bool.{Bool, true, false, cond}
 use mathlib.Core.Logic.{◌⊎◌, inl, inr}
@@ -13,7 +14,6 @@ use lib.ListN.{length, get_or, length-map, get_or-eq_default}
 use lib.IntN.{ℤ, pos, negsuc, ◌+ℤ◌, ◌-ℤ◌, ◌*ℤ◌, neg_ℤ, sub_ℕ, nat_abs}
 use Rattle.apportion.specs.Shares.{sum}
 use Rattle.apportion.specs.Fair.{Fair}
-use Rattle.sheet.specs.Tests.{if◌then◌else◌}
 use Rattle.month.specs.Fraction.{Fraction, Near, ◌over◌, ◌+ᶠ◌, ◌-ᶠ◌, portion, portions}
 
 -- ---- a whole number's two parts, one of them 0: what omega reads

@@ -1,4 +1,5 @@
 -- H rounded up: near the exact H, and the same refusals. Assumes nothing.
+use Rattle.std.specs.Prelude.{if◌then◌else◌}
 use mathlib.Core.Path.{◌≡◌, refl, sym, ◌∙◌}
 use mathlib.Core.Bool.{Bool, true, false}
 use mathlib.Core.Logic.{inl, inr}
@@ -10,7 +11,6 @@ use borrow.Author.Tests.{lt-ltb, le-ltb}
 use lib.Dec.{ltb, eqb}
 use lib.IntN.{ℤ, pos, negsuc, ◌-ℤ◌, ◌*ℤ◌}
 use Rattle.apportion.specs.Shares.{sum}
-use Rattle.sheet.specs.Tests.{if◌then◌else◌}
 use Rattle.sheet.specs.Layout.{Sheet, water_reading}
 use Rattle.month.specs.Fraction.{Fraction, Near, ◌over◌, ◌-ᶠ◌}
 use Rattle.month.specs.Weights.{metered_sum}

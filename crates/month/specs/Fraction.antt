@@ -1,7 +1,6 @@
 -- Fractions (document 01, end of "Steps of a month"): a pair of whole numbers, the lower above 0, the upper perhaps negative.
-use Rattle.std.specs.Prelude.{List, [], ◌∷◌, map, ℕ, ◌*◌, ◌≤◌, ◌<◌, eqb, ℤ, pos, ◌+ℤ◌, ◌-ℤ◌, ◌*ℤ◌, nat_abs}
+use Rattle.std.specs.Prelude.{List, [], ◌∷◌, map, ℕ, ◌*◌, ◌≤◌, ◌<◌, eqb, ℤ, pos, ◌+ℤ◌, ◌-ℤ◌, ◌*ℤ◌, nat_abs, if◌then◌else◌}
 use Rattle.apportion.specs.Shares.{sum}
-use Rattle.sheet.specs.Tests.{if◌then◌else◌}
 
 pub record Fraction : Type 0 where
   pub upper : ℤ

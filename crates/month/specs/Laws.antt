@@ -1,9 +1,9 @@
 -- The laws of a month: what holds of every sheet that settles, by all rules (`settled-laws`, proofs/Laws.antt); which divisions a month makes, by all rules
 -- (`no_other_divisions`, proofs/Divisions.antt); which months versions 1 and 2 settle alike (`alike_but_for_risers`, proofs/Versions.antt); that H rounded up
 -- refuses the sheets that the exact H does (`same-refusals`, proofs/Rounding.antt).
-use Rattle.std.specs.Prelude.{Bool, false, ◌≡◌, List, [], ◌∷◌, ◌++◌, map, ℕ, zero, suc, ◌+◌, ◌*◌, ◌-◌, ◌≤◌, ◌<◌, ltb, eqb, ℤ, pos, negsuc, ◌-ℤ◌, length, get_or}
+use Rattle.std.specs.Prelude.{Bool, false, ◌≡◌, List, [], ◌∷◌, ◌++◌, map, ℕ, zero, suc, ◌+◌, ◌*◌, ◌-◌, ◌≤◌, ◌<◌, ltb, eqb, ℤ, pos, negsuc, ◌-ℤ◌, length, get_or, if◌then◌else◌}
 use Rattle.apportion.specs.Shares.{sum}
-use Rattle.sheet.specs.Tests.{if◌then◌else◌, Each}
+use Rattle.sheet.specs.Tests.{Each}
 use Rattle.sheet.specs.declared.rule_set.RuleSet.{RuleSet}
 use Rattle.sheet.specs.declared.rule_set.RuleSet.TheVariants.{Archive1, Archive2}
 use Rattle.sheet.specs.Layout.{Sheet, sheet_of}

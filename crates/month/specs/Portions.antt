@@ -1,6 +1,5 @@
 -- What the statement's numbers are near to (document 01, end of "Steps of a month"): for energy j, 0 to 3, of unit u.
-use Rattle.std.specs.Prelude.{ℕ, ◌+◌, ◌*◌, eqb, get_or}
-use Rattle.sheet.specs.Tests.{if◌then◌else◌}
+use Rattle.std.specs.Prelude.{ℕ, ◌+◌, ◌*◌, eqb, get_or, if◌then◌else◌}
 use Rattle.sheet.specs.declared.rule_set.RuleSet.{RuleSet}
 use Rattle.sheet.specs.Layout.{Sheet}
 use Rattle.month.specs.Fraction.{Fraction, ◌over◌}

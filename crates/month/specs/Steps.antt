@@ -1,7 +1,6 @@
 -- Steps 1 to 6 of a month (document 01, "Steps of a month"), once for whole Wh and for fractions, and for the rules of every archive version.
-use Rattle.std.specs.Prelude.{List, [], ◌∷◌, ◌++◌, map, ℕ, zero, suc, ◌+◌, ◌*◌, ◌-◌, ◌/◌, eqb, length, get_or, drop}
+use Rattle.std.specs.Prelude.{List, [], ◌∷◌, ◌++◌, map, ℕ, zero, suc, ◌+◌, ◌*◌, ◌-◌, ◌/◌, eqb, length, get_or, drop, if◌then◌else◌}
 use Rattle.apportion.specs.Shares.{sum, shares}
-use Rattle.sheet.specs.Tests.{if◌then◌else◌}
 use Rattle.sheet.specs.declared.rule_set.RuleSet.{RuleSet}
 use Rattle.sheet.specs.Layout.{UnitRow, Sheet, water_reading}
 use Rattle.month.specs.Fraction.{Fraction, ◌over◌, ◌+ᶠ◌, ◌-ᶠ◌, portions}

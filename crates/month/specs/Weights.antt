@@ -1,7 +1,7 @@
 -- What the steps take from the sheet alone: sums and weights (document 01, "Steps of a month"). The document's symbols stand beside the names.
-use Rattle.std.specs.Prelude.{Bool, not, ◌&&◌, ◌||◌, List, [], ◌∷◌, map, ℕ, ◌+◌, ◌*◌, ◌-◌, min, max, leb, ltb, eqb, length}
+use Rattle.std.specs.Prelude.{Bool, not, ◌&&◌, ◌||◌, List, [], ◌∷◌, map, ℕ, ◌+◌, ◌*◌, ◌-◌, min, max, leb, ltb, eqb, length, if◌then◌else◌}
 use Rattle.apportion.specs.Shares.{sum}
-use Rattle.sheet.specs.Tests.{if◌then◌else◌, all}
+use Rattle.sheet.specs.Tests.{all}
 use Rattle.sheet.specs.declared.rule_set.RuleSet.{RuleSet}
 use Rattle.sheet.specs.RuleSets.{limits_risers}
 use Rattle.sheet.specs.Layout.{UnitRow, Sheet}

@@ -1,4 +1,5 @@
 -- The shares of the units not read and of the read ones, back in the order of the units. Assumes nothing.
+use Rattle.std.specs.Prelude.{if◌then◌else◌}
 use mathlib.Core.Path.{◌≡◌, refl, sym, ◌∙◌}
 use mathlib.Core.Logic.{inl, inr}
 use mathlib.Core.Bool.{not}
@@ -10,7 +11,6 @@ use native.Mathlib.Nat.{add-zero}
 use lib.ListN.{length, get_or, take, drop, set, drop_of_length-le}
 use lib.Seq.{take-suc-set, append_snoc, drop-drop, get_or-drop}
 use Rattle.apportion.specs.Shares.{bit}
-use Rattle.sheet.specs.Tests.{if◌then◌else◌}
 use Rattle.sheet.specs.Layout.{UnitRow}
 use Rattle.month.specs.Weights.{those, is_read}
 use Rattle.month.specs.Steps.{whole_wh, in_unit_order}

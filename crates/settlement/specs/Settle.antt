@@ -1,6 +1,5 @@
 -- The answers of the calls that settle a sheet by the rules: 1 to 12, then 13.
-use Rattle.std.specs.Prelude.{List, ℕ, ◌*◌, eqb, length}
-use Rattle.sheet.specs.Tests.{if◌then◌else◌}
+use Rattle.std.specs.Prelude.{List, ℕ, ◌*◌, eqb, length, if◌then◌else◌}
 use Rattle.sheet.specs.declared.refusal.Refusal.TheVariants.{BufferLength}
 use Rattle.sheet.specs.declared.refusal.Outcome.{Outcome}
 use Rattle.sheet.specs.declared.refusal.Outcome.TheVariants.{Accepted, Refused}

@@ -12,7 +12,7 @@ use crate::settling::{measure, month_refusal, write_statement};
 use sheet::{Outcome, RuleSet};
 
 // Its own refusal 1 to 12 and, where there is none, the sum of p and the common heat of step 2.
-#[derive(Drop)]
+#[derive(Clone, Copy)]
 pub struct Survey {
     pub outcome: Outcome,
     pub area: u64,

@@ -34,7 +34,7 @@ pub(crate) fn divide_by(s: &[u8], basis: Basis, by: By, total: u64, out: &mut [u
 }
 
 // The units' part and the common part.
-#[derive(Drop)]
+#[derive(Clone, Copy)]
 pub struct Parts {
     pub units: u64,
     pub common: u64,

@@ -1,6 +1,5 @@
 // Steps 2 to 5: units' heat and common heat.
-ghost use Rattle.std.specs.Prelude.{◌≡◌, true, ◌+◌, ◌≤◌, ◌<◌, length, take, replicate};
-ghost use Rattle.sheet.specs.Tests.{if◌then◌else◌};
+ghost use Rattle.std.specs.Prelude.{◌≡◌, true, ◌+◌, ◌≤◌, ◌<◌, length, take, replicate, if◌then◌else◌};
 ghost use Rattle.sheet.specs.Layout.{sheet_of};
 ghost use Rattle.sheet.specs.Inner.Fits.{Fits};
 ghost use Rattle.sheet.specs.WattHours.{amount_of};

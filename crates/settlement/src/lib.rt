@@ -1,4 +1,6 @@
 // One building month settled (document 01, "Steps of a month"): the divisions, the bill and the statement that crate `month` defines.
+#![tactic(auto)]
+
 mod bill;
 mod building;
 mod divide;

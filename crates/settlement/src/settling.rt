@@ -20,7 +20,7 @@ use weights::hot_water::hot_water;
 use weights::{Basis, metered_heat, sum_rows};
 
 // What a month is settled by: the basis, H and C.
-#[derive(Drop)]
+#[derive(Clone, Copy)]
 pub struct Measures {
     pub basis: Basis,
     pub water: u64,

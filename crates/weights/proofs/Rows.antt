@@ -1,4 +1,5 @@
 -- Rows that are ready to be read, and one unit more in lists that a loop over the rows writes. Assumes nothing.
+use Rattle.std.specs.Prelude.{if◌then◌else◌}
 use mathlib.Core.Path.{◌≡◌, refl, sym, ap, ◌∙◌}
 use mathlib.Core.Logic.{inl, inr}
 use mathlib.Core.Bool.{Bool, true, false, ◌||◌}
@@ -12,7 +13,6 @@ use lib.Seq.{take-set-le, take-suc-set}
 use Rattle.apportion.specs.Shares.{bit}
 use lib.Dec.{eqb}
 use borrow.Author.Tests.{eqb-false}
-use Rattle.sheet.specs.Tests.{if◌then◌else◌}
 use Rattle.sheet.specs.Layout.{UnitRow, Sheet, unit_row, sheet_of}
 use Rattle.sheet.specs.Inner.Fields.{unit_of}
 use Rattle.sheet.specs.Inner.Fits.{UnitFits}

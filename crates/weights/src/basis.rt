@@ -3,7 +3,7 @@ use crate::totals::Totals;
 use sheet::RuleSet;
 
 // The rules, the number of units and the sums over them.
-#[derive(Drop)]
+#[derive(Clone, Copy)]
 pub struct Basis {
     pub rules: RuleSet,
     pub units: usize,

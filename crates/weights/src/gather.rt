@@ -12,7 +12,7 @@ use crate::units;
 use sheet::rows;
 
 // What a division goes by.
-#[derive(Drop)]
+#[derive(Clone, Copy)]
 pub enum By {
     Load,
     Area,

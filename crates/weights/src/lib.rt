@@ -1,4 +1,6 @@
 // What the steps of a month take from the sheet (document 01, "Steps of a month"): sums, hot water, weights, and refusals 8 to 12.
+#![tactic(auto)]
+
 mod basis;
 mod fields;
 pub mod gather;

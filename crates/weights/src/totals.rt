@@ -11,7 +11,7 @@ use crate::units::{common_water_weight, unread_weight};
 use sheet::rows;
 
 // P, Σq, n1, n2, L, N2, persons, the weight of the units not read, how many are read, A, S, B.
-#[derive(Drop)]
+#[derive(Clone, Copy)]
 pub struct Totals {
     pub area: u64,
     pub load: u64,

@@ -1,6 +1,5 @@
 // The weight of a unit in each division (document 01, steps 3, 4 and 6).
-ghost use Rattle.std.specs.Prelude.{◌≡◌, ◌&&◌, ◌||◌, ◌+◌, ◌*◌, ◌-◌, ◌≤◌, ltb, eqb};
-ghost use Rattle.sheet.specs.Tests.{if◌then◌else◌};
+ghost use Rattle.std.specs.Prelude.{◌≡◌, ◌&&◌, ◌||◌, ◌+◌, ◌*◌, ◌-◌, ◌≤◌, ltb, eqb, if◌then◌else◌};
 ghost use Rattle.sheet.specs.RuleSets.{limits_risers};
 ghost use Rattle.sheet.specs.Layout.{sheet_of};
 ghost use Rattle.sheet.specs.Inner.Fields.{unit_of};

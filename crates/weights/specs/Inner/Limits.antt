@@ -1,6 +1,5 @@
 -- The weight of a read unit in models 3 and 4, with limits or without.
-use Rattle.std.specs.Prelude.{Bool, ℕ, ◌*◌}
-use Rattle.sheet.specs.Tests.{if◌then◌else◌}
+use Rattle.std.specs.Prelude.{Bool, ℕ, ◌*◌, if◌then◌else◌}
 use Rattle.sheet.specs.Layout.{UnitRow, Sheet}
 use Rattle.month.specs.Weights.{reading_sum, r_by, limited}
 

@@ -1,6 +1,5 @@
 -- C where step 2's exception holds, else 0.
-use Rattle.std.specs.Prelude.{ℕ}
-use Rattle.sheet.specs.Tests.{if◌then◌else◌}
+use Rattle.std.specs.Prelude.{ℕ, if◌then◌else◌}
 use Rattle.sheet.specs.Layout.{Sheet}
 use Rattle.month.specs.Weights.{all_metered, metered_sum}
 

@@ -1,7 +1,6 @@
 -- The sums over the units: what one unit adds, the sums of document 01, and how large they can be.
-use Rattle.std.specs.Prelude.{◌≡◌, Bool, not, ℕ, ◌+◌, ◌*◌, ◌≤◌, eqb, length}
+use Rattle.std.specs.Prelude.{◌≡◌, Bool, not, ℕ, ◌+◌, ◌*◌, ◌≤◌, eqb, length, if◌then◌else◌}
 use Rattle.apportion.specs.Shares.{sum}
-use Rattle.sheet.specs.Tests.{if◌then◌else◌}
 use Rattle.sheet.specs.Layout.{Sheet, UnitRow}
 use Rattle.month.specs.Weights.{sum_of, is_read, read_units, unread_weight, total_area, unread_weights, read_area, read_surface, reading_sum, units_of_class, litres_of_class1, persons_of_class2, common_water_weight}
 use Rattle.weights.specs.declared.totals.Totals.{Totals}
