@@ -1,5 +1,5 @@
 -- The archive reader, of any bytes (document 01, "Archive record", refusal 14).
-use Rattle.std.specs.Prelude.{true, not, ◌≡◌, List, [], ◌∷◌, ◌++◌, ℕ, ◌+◌, ◌*◌, take, drop}
+use Rattle.std.specs.Prelude.{true, not, ◌≡◌, List, [], ◌∷◌, ◌++◌, ℕ, ◌+◌, ◌*◌, take, drop, if◌then◌else◌}
 use Rattle.std.specs.Borrow.{Bor}
 use Rattle.sheet.specs.declared.refusal.Refusal.TheVariants.{BadArchive}
 use Rattle.sheet.specs.declared.refusal.Outcome.{Outcome}
@@ -7,7 +7,6 @@ use Rattle.sheet.specs.declared.refusal.Outcome.TheVariants.{Accepted, Refused}
 use Rattle.sheet.specs.Refusals.{Rule, ◌⇒◌, first_refusal}
 use Rattle.sheet.specs.declared.rule_set.RuleSet.{RuleSet}
 use Rattle.sheet.specs.RuleSets.{rule_sets}
-use Rattle.sheet.specs.Tests.{if◌then◌else◌}
 use Rattle.sheet.specs.Layout.{sheet_of, in_bytes}
 use Rattle.sheet.specs.Check.{same_list, sheet_rules}
 use Rattle.month.specs.Month.{month_rules, statement_of}

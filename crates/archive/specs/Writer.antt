@@ -1,6 +1,5 @@
 -- The archive writer, of a sheet by the newest rules into a lent list (document 01, "Archive record"): 1 to 12, then 13 unless the list has 56 + 64n bytes.
-use Rattle.std.specs.Prelude.{List, ℕ, ◌+◌, ◌*◌, eqb, length}
-use Rattle.sheet.specs.Tests.{if◌then◌else◌}
+use Rattle.std.specs.Prelude.{List, ℕ, ◌+◌, ◌*◌, eqb, length, if◌then◌else◌}
 use Rattle.sheet.specs.declared.refusal.Refusal.TheVariants.{BufferLength}
 use Rattle.sheet.specs.declared.refusal.Outcome.{Outcome}
 use Rattle.sheet.specs.declared.refusal.Outcome.TheVariants.{Accepted, Refused}

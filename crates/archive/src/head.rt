@@ -13,7 +13,7 @@ const HEAD_2: [u8; 8] = [72, 67, 65, 0, 2, 0, 0, 0];
 pub(crate) const NEWEST_HEAD: [u8; 8] = HEAD_2;
 
 // Right, of the rules of an archive version, or wrong.
-#[derive(Drop)]
+#[derive(Clone, Copy)]
 pub enum Head {
     Wrong,
     Right(RuleSet),

@@ -1,4 +1,6 @@
 // The archive record of a settled sheet (document 01, "Archive record").
+#![tactic(auto)]
+
 mod head;
 mod reader;
 mod writer;

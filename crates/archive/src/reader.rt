@@ -93,7 +93,7 @@ pub fn check(bytes: &[u8]) -> Outcome
 }
 
 // The reader's answer: number and place by the outcome, and the sheet as the very part of the record that holds it.
-#[derive(Drop)]
+#[derive(Clone, Copy)]
 pub struct Reading<'a> {
     pub outcome: Outcome,
     pub sheet: &'a [u8],

@@ -1,4 +1,6 @@
 // The year sums (2026-02).
+#![tactic(auto)]
+
 mod list;
 mod places;
 

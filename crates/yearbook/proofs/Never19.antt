@@ -1,4 +1,5 @@
 -- 2026-02: on lists that match and show a plain book no update goes below zero or past 64 bits; the plain book never answers 19. Assumes nothing.
+use Rattle.std.specs.Prelude.{if◌then◌else◌}
 use mathlib.Core.Path.{◌≡◌, sym, ap, subst}
 use mathlib.Core.Logic.{◌≢◌, inl, inr}
 use mathlib.Core.Bool.{Bool, true, false, not, ◌||◌}
@@ -14,7 +15,7 @@ use Rattle.sheet.specs.declared.refusal.Refusal.{Refusal}
 use Rattle.sheet.specs.declared.refusal.Refusal.TheVariants.{OtherBuilding, MonthState, NoSuchUnit, BadYearSums}
 use Rattle.sheet.specs.declared.refusal.Outcome.{Outcome}
 use Rattle.sheet.specs.declared.refusal.Outcome.TheVariants.{Accepted, Refused}
-use Rattle.sheet.specs.Tests.{if◌then◌else◌, Each}
+use Rattle.sheet.specs.Tests.{Each}
 use Rattle.sheet.specs.Refusals.{first_refusal, number_of}
 use Rattle.sheet.specs.RuleSets.{newest}
 use Rattle.sheet.specs.Check.{◌to◌, ◌within◌, passes, sheet_rules}

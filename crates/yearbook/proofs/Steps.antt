@@ -1,4 +1,5 @@
 -- Each call on lists that match and show a plain book: the plain book's reply, and lists that show the plain book afterwards. Assumes nothing.
+use Rattle.std.specs.Prelude.{if◌then◌else◌}
 use mathlib.Core.Path.{◌≡◌, refl, ap, sym, subst, ◌∙◌}
 use mathlib.Core.Bool.{Bool, true, false, not, ◌||◌}
 use mathlib.Core.List.{List, map}
@@ -12,7 +13,6 @@ use lib.ListN.{length, get_or, length-replicate}
 use Rattle.apportion.specs.Shares.{sum}
 use Rattle.sheet.specs.declared.refusal.Refusal.TheVariants.{OtherBuilding, MonthState, NoSuchUnit}
 use Rattle.sheet.specs.RuleSets.{newest}
-use Rattle.sheet.specs.Tests.{if◌then◌else◌}
 use Rattle.sheet.specs.Check.{◌to◌, ◌within◌, passes}
 use Rattle.sheet.specs.Layout.{sheet_of}
 use Rattle.sheet.proofs.Passed.{in_range}

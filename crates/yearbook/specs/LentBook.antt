@@ -1,12 +1,12 @@
 -- The year book in a lent list of 15,557 numbers, with the year sums beside it (document 01, "Year book", refusals 15 to 18; 2026-02, 19):
 -- for each call the answer and both lists afterwards. Any lists, of any length and contents, have them.
-use Rattle.std.specs.Prelude.{◌≡◌, Bool, not, ◌||◌, List, [], ◌∷◌, ◌++◌, map, ℕ, ◌+◌, ◌*◌, ◌-◌, ltb, eqb, length, get_or, take, drop, set, replicate}
+use Rattle.std.specs.Prelude.{◌≡◌, Bool, not, ◌||◌, List, [], ◌∷◌, ◌++◌, map, ℕ, ◌+◌, ◌*◌, ◌-◌, ltb, eqb, length, get_or, take, drop, set, replicate, if◌then◌else◌}
 use Rattle.std.proofs.lemmas.List.Edits.{sets}
 use Rattle.sheet.specs.declared.refusal.Refusal.{Refusal}
 use Rattle.sheet.specs.declared.refusal.Refusal.TheVariants.{BadYearBook, OtherBuilding, MonthState, NoSuchUnit, BadYearSums}
 use Rattle.sheet.specs.declared.refusal.Outcome.{Outcome}
 use Rattle.sheet.specs.declared.refusal.Outcome.TheVariants.{Accepted, Refused}
-use Rattle.sheet.specs.Tests.{if◌then◌else◌, any}
+use Rattle.sheet.specs.Tests.{any}
 use Rattle.sheet.specs.Refusals.{Rule, ◌⇒◌, first_refusal, afterwards}
 use Rattle.sheet.specs.RuleSets.{newest}
 use Rattle.sheet.specs.Layout.{Sheet, sheet_of}

@@ -1,4 +1,6 @@
 // The year book (document 01, "Year book"), with the year sums beside it (2026-02).
+#![tactic(auto)]
+
 mod bring;
 mod layout;
 mod months;

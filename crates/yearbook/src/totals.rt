@@ -7,7 +7,7 @@ use crate::layout;
 use sheet::{Outcome, Refusal};
 
 // Four sums of energy and four of cents; k and all sums 0 where the call is refused.
-#[derive(Drop)]
+#[derive(Clone, Copy)]
 pub struct YearTotals {
     pub outcome: Outcome,
     pub k: u32,

@@ -1,6 +1,5 @@
 -- An update as code makes it.
-use Rattle.std.specs.Prelude.{◌≡◌, Bool, true, false, not, List, ℕ, ◌*◌, ◌-◌, ◌≤◌, ◌<◌, length, get_or}
-use Rattle.sheet.specs.Tests.{if◌then◌else◌}
+use Rattle.std.specs.Prelude.{◌≡◌, Bool, true, false, not, List, ℕ, ◌*◌, ◌-◌, ◌≤◌, ◌<◌, length, get_or, if◌then◌else◌}
 use Rattle.year_sums.specs.YearSums.{sums_length, zero_sums, updated, bad_sums}
 
 -- what is taken off: the old block, or nothing
