@@ -4,16 +4,13 @@ use mathlib.Core.List.{List, [], ◌∷◌}
 use Prim.Native.Nat.{ℕ, zero, suc, ◌*◌, ◌≤◌, ◌<◌}
 use native.Mathlib.Omega.{arith}
 use lib.ListN.{length, get_or}
-use Rattle.apportion.specs.Shares.{sum}
 use Rattle.apportion.specs.Fair.{Fair}
-use Rattle.sheet.specs.declared.refusal.Outcome.TheVariants.{Accepted}
 use Rattle.sheet.specs.declared.rule_set.RuleSet.{RuleSet}
 use Rattle.sheet.specs.Layout.{Sheet, sheet_of}
 use Rattle.sheet.specs.Check.{sheet_rules, checked}
 use Rattle.sheet.proofs.Passed.{none-holds, holds-none, none_of-both}
 use Rattle.sheet.proofs.Fits.{fits}
 use Rattle.month.specs.Steps.{shares_under}
-use Rattle.month.specs.Laws.{sum_to}
 use Rattle.month.specs.Inner.Accepted.{CheckedSheet}
 use Rattle.month.proofs.Lists.{sum_to_cong, sum_to-list}
 use Rattle.month.proofs.Divisions.{under-fair}

@@ -1,6 +1,5 @@
 -- Connection power and fees (2026-05; article 3): the fixed part, a list of its own beside the statement.
-use Rattle.std.specs.Prelude.{List, [], ◌∷◌, ◌++◌, map, ℕ, zero, suc, eqb, length, get_or, drop}
-use Rattle.sheet.specs.Tests.{if◌then◌else◌}
+use Rattle.std.specs.Prelude.{List, [], ◌∷◌, ◌++◌, map, ℕ, zero, suc, eqb, length, get_or, drop, if◌then◌else◌}
 use Rattle.sheet.specs.declared.rule_set.RuleSet.{RuleSet}
 use Rattle.sheet.specs.Layout.{Sheet}
 use Rattle.month.specs.Steps.{shares_under}

@@ -3,7 +3,7 @@ ghost use Rattle.std.specs.Prelude.{◌≡◌};
 ghost use Rattle.charges.specs.Answer.{over_limit, other_model};
 
 // In cents: connection power, the buyer's fee, the supplier's fee.
-#[derive(Drop)]
+#[derive(Clone, Copy)]
 pub struct Amounts {
     pub power: u32,
     pub buyer: u32,

@@ -23,7 +23,7 @@ use Rattle.month.proofs.Sums.{heat_parts_lem, with_length, with_sum}
 use Rattle.group.specs.Group.{Group, difference, is_negative, adjusted, difference_shares, common_heats, building_energies, group_energies, adjusted_readings, group_units}
 use Rattle.group.specs.Inner.Accepted.{CheckedGroup, AcceptedGroup}
 use Rattle.group.proofs.Bounds.{difference_parts}
-use Rattle.group.proofs.Lists.{Beside, none, one, as_many, at, Fours, joined_length, AddTo, joined-sum}
+use Rattle.group.proofs.Lists.{Beside, none, one, at, Fours, joined_length, AddTo, joined-sum}
 
 -- ---- the difference's division
 pub areas_positive : (ss : List Sheet) → 0 < length ss → Each AcceptedSheet ss → 0 < sum (map total_area ss)

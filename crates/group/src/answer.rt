@@ -2,7 +2,7 @@
 use sheet::Outcome;
 
 // The outcome, and the place from 0 of the building whose own sheet is refused, else 0.
-#[derive(Drop)]
+#[derive(Clone, Copy)]
 pub struct GroupAnswer {
     pub outcome: Outcome,
     pub building: u32,

@@ -4,14 +4,14 @@ ghost use Rattle.group.specs.Inner.Spans.{building_at, no_spans, with_building, 
 
 // A building: where its sheet lies in the buffer.
 #[repr(C)]
-#[derive(Drop)]
+#[derive(Clone, Copy)]
 pub struct Building {
     pub offset: u64,
     pub length: u64,
 }
 
 // The buildings as plain numbers: how many there are, and the first twelve of them.
-#[derive(Drop)]
+#[derive(Clone, Copy)]
 pub struct Spans {
     pub count: usize,
     pub offsets: [u64; 12],

@@ -8,7 +8,7 @@ ghost use Rattle.group.specs.Inner.Figures.{difference_of, moved_by, Movable};
 
 use weights::wide;
 
-#[derive(Drop)]
+#[derive(Clone, Copy)]
 pub struct Difference {
     pub below: bool,
     pub size: u64,

@@ -1,4 +1,6 @@
 // Several buildings on one meter (2026-04; article 7 (7), (8)).
+#![tactic(auto)]
+
 mod answer;
 mod buildings;
 mod difference;

@@ -1,4 +1,6 @@
 // The calls for other languages. An answer of 32 bits is 0 when accepted, else number + 256 × place; one of 64 bits is a length.
+#![tactic(auto)]
+
 ghost use Rattle.std.specs.Prelude.{◌≡◌, ◌∷◌, ◌≤◌, ◌<◌, length};
 ghost use Rattle.sheet.specs.Inner.Places.{PlaceBelow};
 ghost use Rattle.sheet.specs.RuleSets.{newest};

@@ -1,4 +1,5 @@
 -- Laws of a number in decimal digits. Assumes nothing.
+use Rattle.std.specs.Prelude.{if◌then◌else◌}
 use mathlib.Core.Path.{◌≡◌, ap, subst}
 use mathlib.Core.Bool.{Bool, true, false}
 use mathlib.Core.List.{List, [], ◌∷◌, ◌++◌}
@@ -9,7 +10,6 @@ use lib.Dec.{ltb}
 use lib.ListN.{length, length-append}
 use borrow.Author.Tests.{lt-ltb, le-ltb}
 use Rattle.io.specs.Digits.{hex_digit_ascii, last_digits, IsDigitCount}
-use Rattle.sheet.specs.Tests.{if◌then◌else◌}
 use Rattle.printing.specs.Text.{digit, digits_up_to, decimal}
 
 -- ---- the digits of `io::decimal`

@@ -71,6 +71,10 @@ module _ (statement : List ℕ) (i : ℕ) where
   pub eight-long : 8 * i + 8 ≤ length statement → length eight ≡ 8
   eight-long h = omega (arith, length-take-le (8 * (i + 1) - 8 * i) (drop (8 * i) statement) (omega (arith, length-drop (8 * i) statement)))
 
+-- the lines from unit i on
+abbrev pub lines_from : (sheet statement : List ℕ) (i : ℕ) → List ℕ
+lines_from sheet statement i = unit_lines (drop i (month_of newest (sheet_of sheet)).ids) (drop (8 * i) statement)
+
 module _ (bytes statement : List ℕ) (i : ℕ) where
   abbrev ids : List ℕ
   ids = (month_of newest (sheet_of bytes)).ids

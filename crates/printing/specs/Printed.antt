@@ -1,6 +1,5 @@
 -- What `statement` prints of any bytes (document 01, "Printing"), and the same text in a lent list.
-use Rattle.std.specs.Prelude.{List, [], ◌∷◌, ◌++◌, map, ℕ, ◌+◌, ◌*◌, leb, length, take, drop}
-use Rattle.sheet.specs.Tests.{if◌then◌else◌}
+use Rattle.std.specs.Prelude.{List, [], ◌∷◌, ◌++◌, map, ℕ, ◌+◌, ◌*◌, leb, length, take, drop, if◌then◌else◌}
 use Rattle.sheet.specs.declared.refusal.Refusal.{Refusal}
 use Rattle.sheet.specs.Refusals.{number_of, place_of}
 use Rattle.sheet.specs.RuleSets.{newest}

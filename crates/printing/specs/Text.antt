@@ -1,8 +1,7 @@
 -- Text in ASCII: words, decimal numbers, lines.
-use Rattle.std.specs.Prelude.{List, [], ◌∷◌, ◌++◌, ℕ, zero, suc, ◌+◌, ◌/◌, ◌%◌, ltb}
+use Rattle.std.specs.Prelude.{List, [], ◌∷◌, ◌++◌, ℕ, zero, suc, ◌+◌, ◌/◌, ◌%◌, ltb, if◌then◌else◌}
 use Prim.Native.Char.{code}
 use Prim.Native.String.{String, [] as end, ◌∷◌ as ◌then◌}
-use Rattle.sheet.specs.Tests.{if◌then◌else◌}
 
 -- the characters' codes, which are the bytes of a text in ASCII
 abbrev pub ascii : String → List ℕ

@@ -1,7 +1,6 @@
 -- The columns as the code writes them.
-use Rattle.std.specs.Prelude.{◌≡◌, List, ℕ, ◌+◌, ◌*◌, ◌^◌, ◌≤◌, ◌<◌, eqb, length, take}
+use Rattle.std.specs.Prelude.{◌≡◌, List, ℕ, ◌+◌, ◌*◌, ◌^◌, ◌≤◌, ◌<◌, eqb, length, take, if◌then◌else◌}
 use Rattle.apportion.specs.Shares.{sum}
-use Rattle.sheet.specs.Tests.{if◌then◌else◌}
 use Rattle.charges.specs.declared.amounts.Amounts.{Amounts}
 
 -- a row's field by its number: q under 1S, p under 2S

@@ -1,8 +1,7 @@
 -- A figure of each building, in lists of twelve of which the first n count.
-use Rattle.std.specs.Prelude.{◌≡◌, Bool, true, false, not, ℕ, ◌+◌, ◌*◌, ◌-◌, ◌≤◌, ◌<◌, eqb, pos, ◌-ℤ◌, nat_abs, length, get_or, take}
+use Rattle.std.specs.Prelude.{◌≡◌, Bool, true, false, not, ℕ, ◌+◌, ◌*◌, ◌-◌, ◌≤◌, ◌<◌, eqb, pos, ◌-ℤ◌, nat_abs, length, get_or, take, if◌then◌else◌}
 use mathlib.Core.List.{List, [], ◌∷◌, map, zip_with}
 use Rattle.apportion.specs.Shares.{sum}
-use Rattle.sheet.specs.Tests.{if◌then◌else◌}
 use Rattle.sheet.specs.declared.refusal.Refusal.TheVariants.{BufferLength, NegativeCommonHeat, BadGroup}
 use Rattle.sheet.specs.declared.refusal.Outcome.{Outcome}
 use Rattle.sheet.specs.declared.rule_set.RuleSet.{RuleSet}

@@ -1,0 +1,21 @@
+-- Three columns, one after the other.
+use mathlib.Core.List.{List}
+use Prim.Native.Nat.{ℕ}
+use native.Mathlib.Omega.{arith}
+use lib.ListN.{take}
+use Rattle.sheet.specs.RuleSets.{newest}
+use Rattle.month.specs.Steps.{shares_under}
+use Rattle.charges.specs.Charges.{columns}
+use Rattle.charges.proofs.ByUnit.{all-written}
+use Rattle.charges.proofs.columns.write_charges.Goals as goal
+
+pub returns : goal.returns
+unfolding columns
+returns c =
+    let st = c in
+    let first = c.charge in
+    let second = c.charge-2 in
+    let third = c.charge-3 in
+    let a = st.args in
+    let part : ℕ → List ℕ = λ amount. shares_under newest amount (take a.n a.weights.now) in
+    all-written a.n (part a.a.power) (part a.a.buyer) (part a.a.supplier) _ _ _ _ first.ensures second.ensures third.ensures (omega (arith, first.auto, second.auto, third.auto, st.requires.0.room))

@@ -1,0 +1,22 @@
+-- `heatcost_withdraw` meets its contract.
+use mathlib.Core.Path.{ap, subst, sym, ◌∙◌}
+use Rattle.sheet.specs.Inner.Places.{PlaceBelow}
+use Rattle.yearbook.specs.LentBook.{lent, withdraw_answer, lent_reply, lent_after}
+use Rattle.yearbook.proofs.Places.{withdraw-place, same_outcome}
+use Rattle.heatcost.specs.Answer.{answer_number}
+use borrow.Author.Rules.{rules}
+use Rattle.heatcost.proofs.heatcost_withdraw.Goals as goal
+
+pub answer-requires : goal.answer-requires
+unfolding lent_reply
+answer-requires c =
+    let a = c.args in let l = lent a.book.now a.sums.now in
+    let r = c.withdraw in
+    subst (PlaceBelow 160) (sym (same_outcome r.result (withdraw_answer l a.month) r.ensures.reply)) (withdraw-place l a.month)
+
+pub returns : goal.returns
+unfolding lent_reply lent_after
+returns c =
+    let a = c.args in
+    let r = c.withdraw in
+    record { value = c.answer.ensures ∙ ap answer_number (same_outcome r.result (withdraw_answer (lent a.book.now a.sums.now) a.month) r.ensures.reply); sums_after = r.ensures.after }
