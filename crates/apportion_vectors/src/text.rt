@@ -1,20 +1,22 @@
 // What the program writes to standard output.
-pub fn newline() {
-    io::write_all(1, b"\n");
+use std::io;
+
+pub fn newline(rt: &impl Print) -> io::Result<()> {
+    rt.print("\n")
 }
 
-fn space() {
-    io::write_all(1, b" ");
+fn space(rt: &impl Print) -> io::Result<()> {
+    rt.print(" ")
 }
 
 // Item i of a line: every item but the first has a space before it.
-pub fn item(i: usize, x: u64) {
+pub fn item(rt: &impl Print, i: usize, x: u64) -> io::Result<()> {
     if 0 < i {
-        space();
+        space(rt)?;
     }
-    io::print_decimal(1, x);
+    rt.print(x)
 }
 
-pub fn bad_vector() {
-    io::write_all(1, b"bad vector\n");
+pub fn bad_vector(rt: &impl Print) -> io::Result<()> {
+    rt.print("bad vector\n")
 }

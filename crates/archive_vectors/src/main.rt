@@ -1,9 +1,11 @@
 // Reads records, each behind its length in 16 bits, and prints for each the refusal's number and place, or `0 0` where it is accepted, the length of the part handed back,
 // and 1 where the record written anew from that part is the same, else 0.
+#![tactic(auto)]
+
 ghost use Rattle.std.specs.Prelude.{◌≡◌, ◌≤◌, length};
 
-use libc::STDIN_FILENO;
 use sheet::Outcome;
+use std::io;
 
 // No stored record is longer.
 const LONGEST: usize = 10_400;
@@ -11,12 +13,11 @@ const LONGEST: usize = 10_400;
 // 250,000 bytes hold no more records.
 const MOST_RECORDS: usize = 125_000;
 
-fn print_same(same: bool) {
+fn print_same(rt: &impl Print, same: bool) -> io::Result<()> {
     if same {
-        console::word(1);
-        return;
+        return console::word(rt, 1);
     }
-    console::word(0);
+    console::word(rt, 0)
 }
 
 fn same(a: &[u8], b: &[u8]) -> bool
@@ -47,37 +48,38 @@ fn writes_anew(sheet: &[u8], stored: &[u8]) -> bool
     writes(sheet, stored, &mut list[..stored.len()])
 }
 
-fn print_answers(stored: &[u8])
+fn print_answers(rt: &impl Print, stored: &[u8]) -> io::Result<()>
     requires { length stored.now ≤ 10400 }
 {
-    console::answer(archive::check(stored));
+    console::answer(rt, archive::check(stored))?;
     let part = archive::sheet_of(stored);
-    console::word(part.len() as u64);
-    print_same(writes_anew(part, stored));
-    console::newline();
+    console::word(rt, part.len() as u64)?;
+    print_same(rt, writes_anew(part, stored))?;
+    console::newline(rt)
 }
 
 // Reads a record as long as the buffer.
-fn answer(buffer: &mut [u8])
+fn answer(rt: &(impl Input + Print), buffer: &mut [u8]) -> io::Result<()>
     requires { length buffer.old ≤ 10400 }
 {
-    let n = io::read_full(STDIN_FILENO, buffer);
-    print_answers(&buffer[..n]);
+    let n = console::read_full(rt, buffer)?;
+    print_answers(rt, &buffer[..n])
 }
 
-fn answer_next(length: usize)
+fn answer_next(rt: &(impl Input + Print), length: usize) -> io::Result<()>
     requires { length ≤ 10400 }
 {
     let mut buffer = [0u8; LONGEST];
-    answer(&mut buffer[..length]);
+    answer(rt, &mut buffer[..length])
 }
 
-fn main() {
+fn main(rt: HostRuntime) -> io::Result<()> {
     for _ in 0..MOST_RECORDS {
-        let length = console::next16() as usize;
+        let length = console::next16(&rt)? as usize;
         if LONGEST < length {
-            return;
+            return Ok(());
         }
-        answer_next(length);
+        answer_next(&rt, length)?;
     }
+    Ok(())
 }

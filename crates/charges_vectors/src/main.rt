@@ -1,11 +1,13 @@
 // Reads calls of fixed charges, each behind the length of its bytes in 16 bits: the call's model and the amounts, power, buyer's and supplier's fee, in 32 bits each,
 // the count of the list's numbers in 16 bits, and the sheet. The list held 1, 2, 3 and so on. Prints for each number and place and the list afterwards: number
 // by number where the call is accepted and the list has at most 64, else as one number.
+#![tactic(auto)]
+
 ghost use Rattle.std.specs.Prelude.{◌≤◌, length};
 
 use charges::Amounts;
-use libc::STDIN_FILENO;
 use sheet::Outcome;
+use std::io;
 
 // No stored call is longer.
 const LONGEST: usize = 5300;
@@ -16,62 +18,80 @@ const MOST_NUMBERS: usize = 481;
 // 120,000 bytes hold no more calls.
 const MOST_CALLS: usize = 60_000;
 
-fn print_answer(outcome: Outcome, list: &[u32]) {
-    console::answer(outcome);
+fn print_answer(rt: &impl Print, outcome: Outcome, list: &[u32]) -> io::Result<()> {
+    console::answer(rt, outcome)?;
     let Outcome::Accepted = outcome else {
-        console::word(console::digest(list));
-        return;
+        return console::word(rt, console::digest(list));
     };
-    console::print_settled(list);
+    console::print_settled(rt, list)
 }
 
 // Reads a sheet as long as this buffer.
-fn call(buffer: &mut [u8], model: u32, amounts: Amounts, list: &mut [u32])
+fn call(
+    rt: &(impl Input + Print),
+    buffer: &mut [u8],
+    model: u32,
+    amounts: Amounts,
+    list: &mut [u32],
+) -> io::Result<()>
     requires { length list.old ≤ 481 }
 {
-    let n = io::read_full(STDIN_FILENO, buffer);
+    let n = console::read_full(rt, buffer)?;
     console::count_up(list);
     let outcome = charges::fixed_charges(&buffer[..n], model, amounts, list);
-    print_answer(outcome, list);
-    console::newline();
+    print_answer(rt, outcome, list)?;
+    console::newline(rt)
 }
 
-fn call_with(length: usize, model: u32, amounts: Amounts, numbers: usize)
+fn call_with(
+    rt: &(impl Input + Print),
+    length: usize,
+    model: u32,
+    amounts: Amounts,
+    numbers: usize,
+) -> io::Result<()>
     requires { (length ≤ 5300) × (numbers ≤ 481) }
 {
     let mut buffer = [0u8; LONGEST];
     let mut list = [0u32; MOST_NUMBERS];
-    call(&mut buffer[..length], model, amounts, &mut list[..numbers]);
+    call(
+        rt,
+        &mut buffer[..length],
+        model,
+        amounts,
+        &mut list[..numbers],
+    )
 }
 
-fn call_next(length: usize)
+fn call_next(rt: &(impl Input + Print), length: usize) -> io::Result<()>
     requires { length ≤ 5300 }
 {
-    let model = console::next32();
-    let power = console::next32();
-    let buyer = console::next32();
-    let supplier = console::next32();
-    let numbers = console::next16() as usize;
+    let model = console::next32(rt)?;
+    let power = console::next32(rt)?;
+    let buyer = console::next32(rt)?;
+    let supplier = console::next32(rt)?;
+    let numbers = console::next16(rt)? as usize;
     if length < 18 {
-        return;
+        return Ok(());
     }
     if MOST_NUMBERS < numbers {
-        return;
+        return Ok(());
     }
     let amounts = Amounts {
         power,
         buyer,
         supplier,
     };
-    call_with(length - 18, model, amounts, numbers);
+    call_with(rt, length - 18, model, amounts, numbers)
 }
 
-fn main() {
+fn main(rt: HostRuntime) -> io::Result<()> {
     for _ in 0..MOST_CALLS {
-        let length = console::next16() as usize;
+        let length = console::next16(&rt)? as usize;
         if LONGEST < length {
-            return;
+            return Ok(());
         }
-        call_next(length);
+        call_next(&rt, length)?;
     }
+    Ok(())
 }

@@ -1,52 +1,54 @@
 // The program `statement` (document 01, "Printing"): reads a sheet, prints its text.
+#![tactic(auto)]
+
 ghost use Rattle.std.specs.Prelude.{◌≡◌};
+ghost use Rattle.std.specs.Io.{ReadsAtMost};
 ghost use Rattle.printing.specs.Printed.{printed};
 
-use libc::{STDERR_FILENO, STDIN_FILENO, STDOUT_FILENO};
+use std::io;
+use std::io::Read;
 
 // One byte more than the longest sheet: a longer input prints what its first 5,169 bytes print.
 const ROOM: usize = 5169;
 
-// Fills the buffer from standard input, as far as it goes. How many bytes were read, or more than ROOM where a read failed.
-fn read_input(buffer: &mut [u8]) -> usize {
+// Fills the buffer from standard input, as far as it goes. How many bytes were read, or an error where a read failed.
+fn read_input(rt: &impl Input, buffer: &mut [u8]) -> io::Result<usize>
+    ensures { ReadsAtMost result buffer.new }
+{
+    let mut reader = rt.reader();
     let mut done = 0;
     while done < buffer.len() {
-        let got = libc::read(STDIN_FILENO, &mut buffer[done..]);
-        if got < 0 {
-            return ROOM + 1;
-        }
-        let n = io::count(got, &buffer[done..]);
+        let n = reader.read(&mut buffer[done..])?;
         if n == 0 {
-            return done;
+            return Ok(done);
         }
         done += n;
     }
-    done
+    Ok(done)
 }
 
 // Takes only the text of the bytes beside it.
-fn write_text(sheet: &[u8], text: &[u8]) -> bool
+fn write_text(rt: &impl Print, sheet: &[u8], text: &[u8]) -> io::Result<()>
     requires { text.now ≡ printed sheet.now }
 {
-    io::write_all(STDOUT_FILENO, text)
+    rt.write_all(text)
 }
 
-// The text of these bytes on standard output; whether all of it was written.
-pub fn print(sheet: &[u8]) -> bool {
+// The text of these bytes on standard output; an error where not all of it was written.
+pub fn print(rt: &impl Print, sheet: &[u8]) -> io::Result<()> {
     let mut text = [0u8; printing::LONGEST];
     let n = printing::print(sheet, &mut text);
-    write_text(sheet, &text[..n])
+    write_text(rt, sheet, &text[..n])
 }
 
-// No program can end with a status of its own, so a failure is a line on standard error.
-pub fn run() {
+// A failure is a line on standard error, and the status stays 0.
+pub fn run(rt: &(impl Input + Print + Eprint)) {
     let mut buffer = [0u8; ROOM];
-    let n = read_input(&mut buffer);
-    if ROOM < n {
-        io::write_all(STDERR_FILENO, b"statement: the input can't be read\n");
+    let Ok(n) = read_input(rt, &mut buffer) else {
+        let _ = rt.eprint("statement: the input can't be read\n");
         return;
-    }
-    if !print(&buffer[..n]) {
-        io::write_all(STDERR_FILENO, b"statement: the text can't be written\n");
+    };
+    if print(rt, &buffer[..n]).is_err() {
+        let _ = rt.eprint("statement: the text can't be written\n");
     }
 }

@@ -1,8 +1,10 @@
 // Reads sheets, each behind its length in 16 bits. Prints for each what `statement` prints, then what the settle call answers for lists of
 // 8n, 8n + 1 and 8n − 1 numbers that held nines: the length, number and place, and the list afterwards as one number.
+#![tactic(auto)]
+
 ghost use Rattle.std.specs.Prelude.{◌≤◌, ◌<◌, length};
 
-use libc::{STDIN_FILENO, STDOUT_FILENO};
+use std::io;
 
 // No stored sheet is longer.
 const LONGEST: usize = 5400;
@@ -18,21 +20,21 @@ fn fill(list: &mut [u32]) {
     }
 }
 
-fn settle_into(sheet: &[u8], list: &mut [u32]) {
+fn settle_into(rt: &impl Print, sheet: &[u8], list: &mut [u32]) -> io::Result<()> {
     fill(list);
-    io::write_all(STDOUT_FILENO, b"list");
-    console::word(list.len() as u64);
-    io::write_all(STDOUT_FILENO, b" ");
-    console::answer(settlement::settle(sheet, list));
-    console::word(console::digest(list));
-    console::newline();
+    rt.print("list")?;
+    console::word(rt, list.len() as u64)?;
+    rt.print(" ")?;
+    console::answer(rt, settlement::settle(sheet, list))?;
+    console::word(rt, console::digest(list))?;
+    console::newline(rt)
 }
 
-fn settle_with(sheet: &[u8], len: usize)
+fn settle_with(rt: &impl Print, sheet: &[u8], len: usize) -> io::Result<()>
     requires { len ≤ 1281 }
 {
     let mut list = [0u32; 1281];
-    settle_into(sheet, &mut list[..len]);
+    settle_into(rt, sheet, &mut list[..len])
 }
 
 fn wide(x: u8) -> usize
@@ -58,37 +60,38 @@ fn unit_count(sheet: &[u8]) -> usize
     if n < 160 { n } else { 160 }
 }
 
-fn answer_sheet(sheet: &[u8]) {
-    program::print(sheet);
+fn answer_sheet(rt: &impl Print, sheet: &[u8]) -> io::Result<()> {
+    program::print(rt, sheet)?;
     let len = 8 * unit_count(sheet);
-    settle_with(sheet, len);
-    settle_with(sheet, len + 1);
+    settle_with(rt, sheet, len)?;
+    settle_with(rt, sheet, len + 1)?;
     if 0 < len {
-        settle_with(sheet, len - 1);
+        settle_with(rt, sheet, len - 1)
     } else {
-        settle_with(sheet, 0);
+        settle_with(rt, sheet, 0)
     }
 }
 
 // Reads a sheet as long as the buffer.
-fn answer(buffer: &mut [u8]) {
-    let n = io::read_full(STDIN_FILENO, buffer);
-    answer_sheet(&buffer[..n]);
+fn answer(rt: &(impl Input + Print), buffer: &mut [u8]) -> io::Result<()> {
+    let n = console::read_full(rt, buffer)?;
+    answer_sheet(rt, &buffer[..n])
 }
 
-fn answer_next(length: usize)
+fn answer_next(rt: &(impl Input + Print), length: usize) -> io::Result<()>
     requires { length ≤ 5400 }
 {
     let mut buffer = [0u8; LONGEST];
-    answer(&mut buffer[..length]);
+    answer(rt, &mut buffer[..length])
 }
 
-fn main() {
+fn main(rt: HostRuntime) -> io::Result<()> {
     for _ in 0..MOST_SHEETS {
-        let length = console::next16() as usize;
+        let length = console::next16(&rt)? as usize;
         if LONGEST < length {
-            return;
+            return Ok(());
         }
-        answer_next(length);
+        answer_next(&rt, length)?;
     }
+    Ok(())
 }

@@ -1,7 +1,9 @@
 // Reads sheets, each behind its length in 16 bits, and prints for each the refusal's number and place, or `0 0` where it is accepted.
+#![tactic(auto)]
+
 ghost use Rattle.std.specs.Prelude.{◌≤◌};
 
-use libc::STDIN_FILENO;
+use std::io;
 
 // No stored sheet is longer.
 const LONGEST: usize = 5400;
@@ -10,25 +12,26 @@ const LONGEST: usize = 5400;
 const MOST_SHEETS: usize = 125_000;
 
 // Reads a sheet as long as the buffer.
-fn answer(buffer: &mut [u8]) {
-    let n = io::read_full(STDIN_FILENO, buffer);
-    console::answer(sheet::check_sheet(&buffer[..n]));
-    console::newline();
+fn answer(rt: &(impl Input + Print), buffer: &mut [u8]) -> io::Result<()> {
+    let n = console::read_full(rt, buffer)?;
+    console::answer(rt, sheet::check_sheet(&buffer[..n]))?;
+    console::newline(rt)
 }
 
-fn answer_next(length: usize)
+fn answer_next(rt: &(impl Input + Print), length: usize) -> io::Result<()>
     requires { length ≤ 5400 }
 {
     let mut buffer = [0u8; LONGEST];
-    answer(&mut buffer[..length]);
+    answer(rt, &mut buffer[..length])
 }
 
-fn main() {
+fn main(rt: HostRuntime) -> io::Result<()> {
     for _ in 0..MOST_SHEETS {
-        let length = console::next16() as usize;
+        let length = console::next16(&rt)? as usize;
         if LONGEST < length {
-            return;
+            return Ok(());
         }
-        answer_next(length);
+        answer_next(&rt, length)?;
     }
+    Ok(())
 }

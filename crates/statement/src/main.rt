@@ -1,4 +1,6 @@
 // Prints the statement of the sheet on standard input (document 01, "Printing").
-fn main() {
-    program::run();
+#![tactic(auto)]
+
+fn main(rt: HostRuntime) {
+    program::run(&rt);
 }

@@ -1,4 +1,6 @@
 // The program `statement` on empty input.
-fn main() {
-    program::run();
+#![tactic(auto)]
+
+fn main(rt: HostRuntime) {
+    program::run(&rt);
 }

@@ -3,10 +3,12 @@
 // A call is its kind in 8 bits, then 0 open, 1 post, 2 replace: a length in 16 bits and that many bytes; 3 withdraw: a month, 4 year: a place, in 32 bits;
 // 6 writes one of the sums: its place in 16 bits and the number in 64; 7 tells how many sums are lent, in 16 bits;
 // any other kind writes a number of the book: its place and the number, in 16 bits each.
-ghost use Rattle.std.specs.Prelude.{◌≡◌, ◌≤◌, length};
+#![tactic(auto)]
 
-use libc::{STDIN_FILENO, STDOUT_FILENO};
+ghost use Rattle.std.specs.Prelude.{◌≡◌, ◌≤◌, IfOk, length};
+
 use sheet::Outcome;
+use std::io;
 use yearbook::YearTotals;
 
 // No stored sheet is longer.
@@ -18,19 +20,19 @@ const MOST_CALLS: usize = 125_000;
 // One more than a call should be lent.
 const ALL_SUMS: usize = 1281;
 
-fn print_year(t: YearTotals) {
+fn print_year(rt: &impl Print, t: YearTotals) -> io::Result<()> {
     let outcome = t.outcome;
     let sums = t.sums;
-    console::answer(outcome);
-    console::word(t.k as u64);
-    console::word(sums[0]);
-    console::word(sums[1]);
-    console::word(sums[2]);
-    console::word(sums[3]);
-    console::word(sums[4]);
-    console::word(sums[5]);
-    console::word(sums[6]);
-    console::word(sums[7]);
+    console::answer(rt, outcome)?;
+    console::word(rt, t.k as u64)?;
+    console::word(rt, sums[0])?;
+    console::word(rt, sums[1])?;
+    console::word(rt, sums[2])?;
+    console::word(rt, sums[3])?;
+    console::word(rt, sums[4])?;
+    console::word(rt, sums[5])?;
+    console::word(rt, sums[6])?;
+    console::word(rt, sums[7])
 }
 
 fn with_sheet(book: &mut [u32], sums: &mut [u64], kind: u32, sheet: &[u8]) -> Outcome {
@@ -44,88 +46,115 @@ fn with_sheet(book: &mut [u32], sums: &mut [u64], kind: u32, sheet: &[u8]) -> Ou
 }
 
 // Reads a sheet as long as the buffer.
-fn sheet_into(book: &mut [u32], sums: &mut [u64], kind: u32, buffer: &mut [u8]) {
-    let n = io::read_full(STDIN_FILENO, buffer);
-    console::answer(with_sheet(book, sums, kind, &buffer[..n]));
+fn sheet_into(
+    rt: &(impl Input + Print),
+    book: &mut [u32],
+    sums: &mut [u64],
+    kind: u32,
+    buffer: &mut [u8],
+) -> io::Result<()> {
+    let n = console::read_full(rt, buffer)?;
+    console::answer(rt, with_sheet(book, sums, kind, &buffer[..n]))
 }
 
-fn next_sheet(book: &mut [u32], sums: &mut [u64], kind: u32, length: usize)
+fn next_sheet(
+    rt: &(impl Input + Print),
+    book: &mut [u32],
+    sums: &mut [u64],
+    kind: u32,
+    length: usize,
+) -> io::Result<()>
     requires { length ≤ 5400 }
 {
     let mut buffer = [0u8; LONGEST];
-    sheet_into(book, sums, kind, &mut buffer[..length]);
+    sheet_into(rt, book, sums, kind, &mut buffer[..length])
 }
 
-fn sheet_call(book: &mut [u32], sums: &mut [u64], kind: u32) {
-    let length = console::next16() as usize;
+fn sheet_call(
+    rt: &(impl Input + Print),
+    book: &mut [u32],
+    sums: &mut [u64],
+    kind: u32,
+) -> io::Result<()> {
+    let length = console::next16(rt)? as usize;
     if LONGEST < length {
-        return;
+        return Ok(());
     }
-    next_sheet(book, sums, kind, length);
+    next_sheet(rt, book, sums, kind, length)
 }
 
-fn write_number(book: &mut [u32]) {
-    let place = console::next16() as usize;
-    let x = console::next16();
+fn write_number(rt: &(impl Input + Print), book: &mut [u32]) -> io::Result<()> {
+    let place = console::next16(rt)? as usize;
+    let x = console::next16(rt)?;
     if book.len() <= place {
-        return;
+        return Ok(());
     }
     book[place] = x;
-    io::write_all(STDOUT_FILENO, b"set");
+    rt.print("set")
 }
 
-fn call(book: &mut [u32], sums: &mut [u64], kind: u32) {
+fn call(
+    rt: &(impl Input + Print),
+    book: &mut [u32],
+    sums: &mut [u64],
+    kind: u32,
+) -> io::Result<()> {
     if kind < 3 {
-        sheet_call(book, sums, kind);
-        return;
+        return sheet_call(rt, book, sums, kind);
     }
     if kind == 3 {
-        console::answer(yearbook::withdraw(book, sums, console::next32()));
-        return;
+        let month = console::next32(rt)?;
+        return console::answer(rt, yearbook::withdraw(book, sums, month));
     }
     if kind == 4 {
-        print_year(yearbook::year(book, sums, console::next32()));
-        return;
+        let place = console::next32(rt)?;
+        return print_year(rt, yearbook::year(book, sums, place));
     }
-    write_number(book);
+    write_number(rt, book)
 }
 
-fn write_sum(sums: &mut [u64]) {
-    let place = console::next16() as usize;
-    let x = console::next64();
+fn write_sum(rt: &(impl Input + Print), sums: &mut [u64]) -> io::Result<()> {
+    let place = console::next16(rt)? as usize;
+    let x = console::next64(rt)?;
     if sums.len() <= place {
-        return;
+        return Ok(());
     }
     sums[place] = x;
-    io::write_all(STDOUT_FILENO, b"sum");
+    rt.print("sum")
 }
 
-fn next_count(before: usize) -> usize
+fn next_count(rt: &(impl Input + Print), before: usize) -> io::Result<usize>
     requires { before ≤ 1281 }
-    ensures { result ≤ 1281 }
+    ensures { IfOk result (λ count. count ≤ 1281) }
 {
-    let count = console::next16() as usize;
+    let count = console::next16(rt)? as usize;
     if ALL_SUMS < count {
-        return before;
+        return Ok(before);
     }
-    io::write_all(STDOUT_FILENO, b"count");
-    count
+    rt.print("count")?;
+    Ok(count)
 }
 
 // A call, and how many sums are lent from then on.
-fn step(book: &mut [u32], sums: &mut [u64], kind: u32, count: usize) -> usize
+fn step(
+    rt: &(impl Input + Print),
+    book: &mut [u32],
+    sums: &mut [u64],
+    kind: u32,
+    count: usize,
+) -> io::Result<usize>
     requires { (length sums.old ≡ 1281) × (count ≤ 1281) }
-    ensures { result ≤ 1281 }
+    ensures { IfOk result (λ lent. lent ≤ 1281) }
 {
     if kind == 7 {
-        return next_count(count);
+        return next_count(rt, count);
     }
     if kind == 6 {
-        write_sum(sums);
-        return count;
+        write_sum(rt, sums)?;
+        return Ok(count);
     }
-    call(book, &mut sums[..count], kind);
-    count
+    call(rt, book, &mut sums[..count], kind)?;
+    Ok(count)
 }
 
 // The sums as one number.
@@ -139,24 +168,25 @@ fn digest(sums: &[u64]) -> u64 {
     sum
 }
 
-fn run(book: &mut [u32], sums: &mut [u64])
+fn run(rt: &(impl Input + Print), book: &mut [u32], sums: &mut [u64]) -> io::Result<()>
     requires { length sums.old ≡ 1281 }
 {
     let mut count: usize = 1280;
     for _ in 0..MOST_CALLS {
-        let kind = console::next8();
+        let kind = console::next8(rt)?;
         if 255 < kind {
-            return;
+            return Ok(());
         }
-        count = step(book, sums, kind, count);
-        console::word(console::digest(book));
-        console::word(digest(sums));
-        console::newline();
+        count = step(rt, book, sums, kind, count)?;
+        console::word(rt, console::digest(book))?;
+        console::word(rt, digest(sums))?;
+        console::newline(rt)?;
     }
+    Ok(())
 }
 
-fn main() {
+fn main(rt: HostRuntime) -> io::Result<()> {
     let mut book = [0u32; 15557];
     let mut sums = [0u64; ALL_SUMS];
-    run(&mut book, &mut sums);
+    run(&rt, &mut book, &mut sums)
 }
