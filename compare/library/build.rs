@@ -1,4 +1,4 @@
-//! Links the archive that `rt staticlib heatcost` writes, and for the
+//! Links the archive that `compare/run` makes of `crates/heatcost`, and for the
 //! benchmarks the one that `compare/run` makes of the division.
 
 fn main() {

@@ -1,4 +1,4 @@
-//! The library (`rt staticlib heatcost`) against the independent
+//! The library (`rt lib` in `crates/heatcost`) against the independent
 //! implementation. The first argument says what is done:
 //!
 //! - `compare ROUNDS SEED`: every call on random and damaged inputs, answers
