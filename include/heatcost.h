@@ -1,5 +1,5 @@
-/* Heat cost settlement under the Croatian Regulation NN 140/25: the calls of libheatcost.a, which `rt staticlib
- * heatcost` builds for Linux on x86-64. This header is C99 and C++. docs/FORMAT.md has the layouts of sheet,
+/* Heat cost settlement under the Croatian Regulation NN 140/25: the calls of libheatcost.a, which `rt lib` in
+ * crates/heatcost builds for Linux on x86-64. This header is C99 and C++. docs/FORMAT.md has the layouts of sheet,
  * statement, charges, record, year book, year sums and printed text, and for each refusal what to correct; examples/
  * shows the calls in use.
  *

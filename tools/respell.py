@@ -2,7 +2,7 @@
 """Spells the repository's own definitions and lemmas in snake case, after port.py. Run once, at the top.
 
 Functions of src/, exported names, strings, inputs and outputs keep their names. A dash stays where it joins two names,
-as in length-added. Names that would fall together are listed and nothing is written.
+as in length-added. Where names would fall together nothing is written; --list says which, --table prints all names.
 """
 
 import glob
@@ -105,10 +105,8 @@ def main():
             for old in olds:
                 if old not in ts or new not in ts or old in foreign[f] or new in BY_HAND:
                     continue
-                # A definition may have a function's name, and no parameter's, field's or constant's.
-                lines = re.findall(rf"(?m)^.*\\b{new}(?=:[^:]).*$", texts[f])
-                if f.endswith(".antt") or lines:
-                    bad.append(f"meets: {f}: {old} -> {new} {lines[:2]}")
+                if f.endswith(".antt"):
+                    bad.append(f"meets: {f}: {old} -> {new}")
     if bad and "--list" in sys.argv:
         print("\n".join(bad))
     if "--table" in sys.argv:
