@@ -23,9 +23,8 @@ counted_with-c-requires c =
 
 pub loop-i-preserved : goal.loop-i-preserved
 loop-i-preserved c =
-    let at-loop = c in
-    let l = at-loop.loop-i in
-    let a = at-loop.args in
+    let l = c.loop-i in
+    let a = c.args in
     (omega arith, rw (next-take a.keys.now l.i (omega arith)) (c.counted_with-c.ensures a.lo a.hi (take l.i a.keys.now) l.invariant.1))
 
 pub returns : goal.returns

@@ -27,29 +27,26 @@ overflow_cast-out c =
 
 pub overflow_add-down : goal.overflow_add-down
 overflow_add-down c =
-    let at-loop = c in
-    let a = at-loop.args in
-    let p = at-loop.requires.total_bound in
+    let a = c.args in
+    let p = c.requires.total_bound in
     omega (
       arith,
       c.mul_div-o.ensures.0,
       quotas_le a.total a.whole p.1 a.ws.now p.3,
-      ap (λ (r : List ℕ). sum (map (quota a.total a.whole) r)) (next-drop a.ws.now at-loop.loop-i.i (omega arith)),
+      ap (λ (r : List ℕ). sum (map (quota a.total a.whole) r)) (next-drop a.ws.now c.loop-i.i (omega arith)),
     )
 
 -- the bit is the weight's part of the count
 counted : (c : After-one_if-positive)
-    → let at-loop = c in
-    let a = at-loop.args in
+    → let a = c.args in
     let r = remainder a.total a.whole in
-    at_least 1 (map r (drop at-loop.loop-i.i a.ws.now)) ≡ c.one_if-positive.result + at_least 1 (map r (drop (at-loop.loop-i.i + 1) a.ws.now))
+    at_least 1 (map r (drop c.loop-i.i a.ws.now)) ≡ c.one_if-positive.result + at_least 1 (map r (drop (c.loop-i.i + 1) a.ws.now))
 counted c =
-    let at-loop = c in
-    let a = at-loop.args in
+    let a = c.args in
     let r = remainder a.total a.whole in
-    let one : c.one_if-positive.result ≡ bit (leb 1 (r (get_or a.ws.now at-loop.loop-i.i 0))) =
+    let one : c.one_if-positive.result ≡ bit (leb 1 (r (get_or a.ws.now c.loop-i.i 0))) =
     c.one_if-positive.ensures.0 ∙ ap (λ (x : ℕ). bit (leb 1 x)) c.mul_div-o.ensures.1 in
-    omega (arith, one, ap (λ (x : List ℕ). at_least 1 (map r x)) (next-drop a.ws.now at-loop.loop-i.i (omega arith)))
+    omega (arith, one, ap (λ (x : List ℕ). at_least 1 (map r x)) (next-drop a.ws.now c.loop-i.i (omega arith)))
 
 pub overflow_add-positive : goal.overflow_add-positive
 overflow_add-positive c =
@@ -59,9 +56,8 @@ overflow_add-positive c =
 
 pub loop-i-preserved : goal.loop-i-preserved
 loop-i-preserved c =
-    let at-loop = c in
-    let l = at-loop.loop-i in
-    let a = at-loop.args in
+    let l = c.loop-i in
+    let a = c.args in
     let o = c.mul_div-o in
     let hw : l.i < length a.ws.now = omega arith in
     let q = quota a.total a.whole in

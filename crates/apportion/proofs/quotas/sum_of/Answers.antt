@@ -8,13 +8,11 @@ use Rattle.apportion.proofs.quotas.sum_of.Goals as goal
 
 pub overflow_add-s : goal.overflow_add-s
 overflow_add-s c =
-    let at-loop = c in
-    omega (arith, ap sum (next-drop at-loop.args.ws.now at-loop.loop-i.i (omega arith)))
+    omega (arith, ap sum (next-drop c.args.ws.now c.loop-i.i (omega arith)))
 
 pub loop-i-preserved : goal.loop-i-preserved
 loop-i-preserved c =
-    let at-loop = c in
-    omega (arith, ap sum (next-drop at-loop.args.ws.now at-loop.loop-i.i (omega arith)))
+    omega (arith, ap sum (next-drop c.args.ws.now c.loop-i.i (omega arith)))
 
 pub returns : goal.returns
 returns c =

@@ -15,11 +15,10 @@ divided-o-requires c =
 
 pub returns : goal.returns
 returns c =
-    let at_room = c in
-    let a = at_room.args in
-    let p = 2 ^ at_room.room-k.result in
-    let w_le : a.w * p ≤ a.whole * p = mul-le-mul_right p at_room.requires.1 in
+    let a = c.args in
+    let p = 2 ^ c.room-k.result in
+    let w_le : a.w * p ≤ a.whole * p = mul-le-mul_right p c.requires.1 in
     let ew : a.w * p % 2 ^ 64 ≡ a.w * p = mod-eq_of_lt (omega arith) in
     let ed : a.whole * p % 2 ^ 64 ≡ a.whole * p = mod-eq_of_lt (omega arith) in
     let e = rw (ew, ed) at c.divided-o.ensures in
-    scaled a.t a.w a.whole p c.divided-o.result.quotient c.divided-o.result.remainder (pow_pos at_room.room-k.result) e.0 e.1
+    scaled a.t a.w a.whole p c.divided-o.result.quotient c.divided-o.result.remainder (pow_pos c.room-k.result) e.0 e.1

@@ -20,30 +20,26 @@ bounds-near-within c = omega (arith, mod-lt c.loop-i.within {m = 128} (omega ari
 
 pub overflow_sub-within : goal.overflow_sub-within
 overflow_sub-within c =
-    let at-loop = c in
-    let a = at-loop.args in
-    let k = get_or a.keys.now at-loop.loop-i.i 0 in
+    let a = c.args in
+    let k = get_or a.keys.now c.loop-i.i 0 in
     omega (arith, antitone a.lo a.hi (k ∷ []) (omega arith))
 
 pub overflow_add-within : goal.overflow_add-within
 overflow_add-within c =
-    let at-loop = c in
-    let l = at-loop.loop-i in
-    let a = at-loop.args in
+    let l = c.loop-i in
+    let a = c.args in
     omega (arith, collected_le a.lo a.hi (omega arith) l.invariant.2, length-take-le l.i a.keys.now (omega arith))
 
 pub overflow_add-above : goal.overflow_add-above
 overflow_add-above c =
-    let at-loop = c in
-    let l = at-loop.loop-i in
-    let a = at-loop.args in
+    let l = c.loop-i in
+    let a = c.args in
     omega (arith, collected_le a.lo a.hi (omega arith) l.invariant.2, length-take-le l.i a.keys.now (omega arith))
 
 pub loop-i-preserved : goal.loop-i-preserved
 loop-i-preserved c =
-    let at-loop = c in
-    let l = at-loop.loop-i in
-    let a = at-loop.args in (
+    let l = c.loop-i in
+    let a = c.args in (
       omega arith,
       simp length-set l.invariant.1,
       rw (next-take a.keys.now l.i (omega arith))

@@ -16,19 +16,15 @@ give_above-requires c =
 
 pub give_ties-requires : goal.give_ties-requires
 give_ties-requires c =
-    let g = c in
-    let θ = g.threshold-cut.result.theta in
-    let start = g in
-    let a = start.args in
-    let e = g.give_above.ensures in (
-      ap length e ∙ length-added a.out.now (given θ 0 a.keys.now) ∙ start.requires.out_len.0,
-      λ j. omega (arith, ap (λ (xs : List ℕ). get_or xs j 0) e, one_each θ 0 a.out.now a.keys.now j, start.requires.out_len.1 j),
+    let θ = c.threshold-cut.result.theta in
+    let a = c.args in
+    let e = c.give_above.ensures in (
+      ap length e ∙ length-added a.out.now (given θ 0 a.keys.now) ∙ c.requires.out_len.0,
+      λ j. omega (arith, ap (λ (xs : List ℕ). get_or xs j 0) e, one_each θ 0 a.out.now a.keys.now j, c.requires.out_len.1 j),
     )
 
 pub returns : goal.returns
 returns c =
-    let s = c in
-    let g = s in
-    let t = g.threshold-cut in
-    let a = g.args in
-    leftover-given a.left t.result.theta t.result.spare a.keys.now a.out.now t.ensures g.give_above.ensures s.give_ties.ensures
+    let t = c.threshold-cut in
+    let a = c.args in
+    leftover-given a.left t.result.theta t.result.spare a.keys.now a.out.now t.ensures c.give_above.ensures c.give_ties.ensures

@@ -28,9 +28,8 @@ overflow_add-out c = let l = c.loop-i in omega (arith, l.invariant.2 l.i (omega 
 
 pub loop-i-preserved : goal.loop-i-preserved
 loop-i-preserved c =
-    let at-loop = c in
-    let l = at-loop.loop-i in
-    let a = at-loop.args in
+    let l = c.loop-i in
+    let a = c.args in
     let ks = a.keys.now in
     let o = c.one_if-one in
     let rest = ties a.theta (l.left - o.result) (drop (l.i + 1) ks) in (

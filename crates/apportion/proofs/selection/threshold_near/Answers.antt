@@ -15,22 +15,17 @@ slice_bounds-narrow-end-2 c =
 
 pub overflow_sub-left : goal.overflow_sub-left
 overflow_sub-left c =
-    let outside = c in
-    omega (arith, outside.caught.ensures outside.if-not-caught.false)
+    omega (arith, c.caught.ensures c.if-not-caught.false)
 
 pub narrow-requires : goal.narrow-requires
 narrow-requires c =
-    let outside = c in
-    let p = outside in
-    let b = p.around-b in
-    let h = outside.caught.ensures outside.if-not-caught.false in
-    to_narrow b.result.lo b.result.hi b.ensures.1 p.collect-p.ensures h.0 h.1 h.2
+    let b = c.around-b in
+    let h = c.caught.ensures c.if-not-caught.false in
+    to_narrow b.result.lo b.result.hi b.ensures.1 c.collect-p.ensures h.0 h.1 h.2
 
 pub returns : goal.returns
 returns c =
-    let outside = c in
-    let p = outside in
-    let b = p.around-b in
-    let h = outside.caught.ensures outside.if-not-caught.false in
+    let b = c.around-b in
+    let h = c.caught.ensures c.if-not-caught.false in
     let n = c.narrow.ensures in
-    narrowed b.result.lo b.result.hi b.ensures.1 p.collect-p.ensures h.0 h.1 h.2 c.narrow.result.theta c.narrow.result.spare n.from_le_theta.0 n.from_le_theta.1 n.cuts
+    narrowed b.result.lo b.result.hi b.ensures.1 c.collect-p.ensures h.0 h.1 h.2 c.narrow.result.theta c.narrow.result.spare n.from_le_theta.0 n.from_le_theta.1 n.cuts

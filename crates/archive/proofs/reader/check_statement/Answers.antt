@@ -9,6 +9,5 @@ header_field-n-requires c = (omega (arith, all-length _ c.requires), omega arith
 
 pub check_up_to_160-requires : goal.check_up_to_160-requires
 check_up_to_160-requires c =
-    let st = c in
     let n = c.header_field-n.ensures in
-    (record { passed = st.requires; count = n }, omega (arith, n, (fits 64 _ st.requires).header.unit_count))
+    (record { passed = c.requires; count = n }, omega (arith, n, (fits 64 _ c.requires).header.unit_count))

@@ -7,7 +7,7 @@ use Rattle.archive.proofs.Answers.{with_room}
 use Rattle.archive.proofs.reader.check_up_to_160.Goals as goal
 
 pub slice_bounds-check_in-end : goal.slice_bounds-check_in-end
-slice_bounds-check_in-end c = let st = c in sym (lent_length 1280 (8 * st.args.n) (omega (arith, st.requires.1)))
+slice_bounds-check_in-end c = sym (lent_length 1280 (8 * c.args.n) (omega (arith, c.requires.1)))
 
 pub check_in-requires : goal.check_in-requires
-check_in-requires c = let st = c in with_room 1280 st.requires.0 (omega (arith, st.requires.1))
+check_in-requires c = with_room 1280 c.requires.0 (omega (arith, c.requires.1))

@@ -12,10 +12,9 @@ use Rattle.charges.proofs.columns.write_charges.Goals as goal
 pub returns : goal.returns
 unfolding columns
 returns c =
-    let st = c in
     let first = c.charge in
     let second = c.charge-2 in
     let third = c.charge-3 in
-    let a = st.args in
+    let a = c.args in
     let part : ℕ → List ℕ = λ amount. shares_under newest amount (take a.n a.weights.now) in
-    all-written a.n (part a.a.power) (part a.a.buyer) (part a.a.supplier) _ _ _ _ first.ensures second.ensures third.ensures (omega (arith, first.auto, second.auto, third.auto, st.requires.0.room))
+    all-written a.n (part a.a.power) (part a.a.buyer) (part a.a.supplier) _ _ _ _ first.ensures second.ensures third.ensures (omega (arith, first.auto, second.auto, third.auto, c.requires.0.room))

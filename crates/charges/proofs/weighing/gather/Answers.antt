@@ -22,25 +22,23 @@ bounds-out-i c = omega (arith, c.requires.0.header.unit_count)
 
 pub loop-i-preserved : goal.loop-i-preserved
 loop-i-preserved c =
-    let st = c in
     let l = c.loop-i in
     let k = c.field_by-k.result in (
       omega arith,
       (
         simp length-set l.invariant.1.0,
-        next_weight (λ u. row_field u k) st.args.s.now l.out l.i c.field.result (omega arith) (omega (arith, st.requires.0.header.unit_count)) c.field.ensures l.invariant.1.1,
+        next_weight (λ u. row_field u k) c.args.s.now l.out l.i c.field.result (omega arith) (omega (arith, c.requires.0.header.unit_count)) c.field.ensures l.invariant.1.1,
       ),
     )
 
 pub returns : goal.returns
 returns c =
-    let st = c in
-    let s = sheet_of st.args.s.now in
+    let s = sheet_of c.args.s.now in
     let l = c.loop-i in
     let k = c.field_by-k in
-    let all : l.i ≡ st.args.n = omega arith in
+    let all : l.i ≡ c.args.n = omega arith in
     ap (λ (m : ℕ). take m l.out) (sym all)
     ∙ l.invariant.1.1
-    ∙ ap (map (λ (u : UnitRow). row_field u k.result)) (take_all l.i s.units (omega (arith, st.requires.0.units_length)))
+    ∙ ap (map (λ (u : UnitRow). row_field u k.result)) (take_all l.i s.units (omega (arith, c.requires.0.units_length)))
     ∙ ap (λ (j : ℕ). map (λ (u : UnitRow). row_field u j) s.units) k.ensures
-    ∙ weights_are st.args.model s
+    ∙ weights_are c.args.model s

@@ -12,9 +12,8 @@ print_checked-requires c = sym c.check_sheet.ensures ∙ c.in-Accepted.is
 pub returns-in-Refused : goal.returns-in-Refused
 unfolding printed
 returns-in-Refused c =
-    let st = c in
     let p = c.print_refusal in
-    let r = subst (λ (x : Settled). Prints x p.result st.args.text.now p.new.text) (sym (refused-sheet st.args.sheet.now _ (sym c.check_sheet.ensures ∙ c.in-Refused.is))) p.ensures in
+    let r = subst (λ (x : Settled). Prints x p.result c.args.text.now p.new.text) (sym (refused-sheet c.args.sheet.now _ (sym c.check_sheet.ensures ∙ c.in-Refused.is))) p.ensures in
     record { value = (r.long, r.short); text_after = r.list }
 
 pub returns-in-Accepted : goal.returns-in-Accepted

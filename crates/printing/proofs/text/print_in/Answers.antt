@@ -11,21 +11,18 @@ use Rattle.printing.proofs.text.print_in.Goals as goal
 
 pub print_month-requires : goal.print_month-requires
 print_month-requires c =
-    let st = c in
     let o = c.settle_checked in
     let ok = sym o.ensures.value ∙ c.in-Accepted.is in
-    (fits 32 st.args.sheet.now st.requires.0, o.ensures.statement_after ∙ statement-is newest st.args.sheet.now st.args.statement.now st.requires.0 st.requires.1 ok, omega (arith, o.auto, st.requires.1))
+    (fits 32 c.args.sheet.now c.requires.0, o.ensures.statement_after ∙ statement-is newest c.args.sheet.now c.args.statement.now c.requires.0 c.requires.1 ok, omega (arith, o.auto, c.requires.1))
 
 pub returns-in-Refused : goal.returns-in-Refused
 returns-in-Refused c =
-    let st = c in
     let o = c.settle_checked in
     let p = c.print_refusal in
-    subst (λ (x : Settled). Prints x p.result st.args.text.now p.new.text) (sym (refused-month st.args.sheet.now st.args.statement.now st.requires.0 st.requires.1 _ (sym o.ensures.value ∙ c.in-Refused.is))) p.ensures
+    subst (λ (x : Settled). Prints x p.result c.args.text.now p.new.text) (sym (refused-month c.args.sheet.now c.args.statement.now c.requires.0 c.requires.1 _ (sym o.ensures.value ∙ c.in-Refused.is))) p.ensures
 
 pub returns-in-Accepted : goal.returns-in-Accepted
 returns-in-Accepted c =
-    let st = c in
     let o = c.settle_checked in
     let p = c.print_month in
-    subst (λ (x : Settled). Prints x p.result st.args.text.now p.new.text) (sym (settles newest st.args.sheet.now st.args.statement.now st.requires.0 st.requires.1 (sym o.ensures.value ∙ c.in-Accepted.is))) p.ensures
+    subst (λ (x : Settled). Prints x p.result c.args.text.now p.new.text) (sym (settles newest c.args.sheet.now c.args.statement.now c.requires.0 c.requires.1 (sym o.ensures.value ∙ c.in-Accepted.is))) p.ensures

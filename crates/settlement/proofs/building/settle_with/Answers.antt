@@ -28,6 +28,5 @@ write_statement-requires c =
 
 pub returns : goal.returns
 returns c =
-    let st = c in
     let m = c.measure-m.ensures in
-    c.write_statement.ensures ∙ ap (λ (r : RuleSet). statement_with r (sheet_of st.args.s.now) st.args.common st.args.bill) m.by-rules
+    c.write_statement.ensures ∙ ap (λ (r : RuleSet). statement_with r (sheet_of c.args.s.now) c.args.common c.args.bill) m.by-rules

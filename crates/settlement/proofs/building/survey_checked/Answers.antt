@@ -8,9 +8,8 @@ use Rattle.settlement.proofs.building.survey_checked.Goals as goal
 
 pub returns-in_default : goal.returns-in_default
 returns-in_default c =
-    let st = c in
     let o = c.month_refusal-outcome in
-    c.refused.ensures ∙ refused-month st.args.rules st.args.s.now st.requires o.result o.ensures _ c.in_default.is
+    c.refused.ensures ∙ refused-month c.args.rules c.args.s.now c.requires o.result o.ensures _ c.in_default.is
 
 pub heat_parts-parts-requires : goal.heat_parts-parts-requires
 heat_parts-parts-requires c =
@@ -19,7 +18,6 @@ heat_parts-parts-requires c =
 
 pub returns : goal.returns
 returns c =
-    let st = c in
     let o = c.month_refusal-outcome in
     let m = c.measure-m.ensures in
-    surveys st.args.rules st.args.s.now st.requires o.result o.ensures c.in-Accepted.is m.ready.totals.area (c.heat_parts-parts.ensures.common ∙ ap (λ (r : RuleSet). (heat_parts whole_wh r (sheet_of st.args.s.now)).common) m.by-rules)
+    surveys c.args.rules c.args.s.now c.requires o.result o.ensures c.in-Accepted.is m.ready.totals.area (c.heat_parts-parts.ensures.common ∙ ap (λ (r : RuleSet). (heat_parts whole_wh r (sheet_of c.args.s.now)).common) m.by-rules)

@@ -11,23 +11,21 @@ use Rattle.settlement.proofs.Dividing.{weights_fit, zeros_shared}
 use Rattle.settlement.proofs.divide.divide_by.Goals as goal
 
 pub returns-then-total-eq0 : goal.returns-then-total-eq0
-returns-then-total-eq0 c = let st = c in zeros_shared st.requires.0 st.args.by (omega arith) st.requires.1
+returns-then-total-eq0 c = zeros_shared c.requires.0 c.args.by (omega arith) c.requires.1
 
 pub share-requires : goal.share-requires
 share-requires c =
-    let st = c in
-    let p = st.requires in
+    let p = c.requires in
     let few = p.0.ready.fits.header.unit_count in
     let g = c.gather-m in record {
       m_bound = (omega (arith, p.0.count, few), omega (arith, g.auto, p.0.count, few), omega (arith, p.0.count, few, ap length p.1));
-      divides = rw g.ensures.1 (p.2, weights_fit st.args.basis.rules (sheet_of st.args.s.now) p.0.accepted.checked-sheet st.args.by);
+      divides = rw g.ensures.1 (p.2, weights_fit c.args.basis.rules (sheet_of c.args.s.now) p.0.accepted.checked-sheet c.args.by);
     }
 
 pub returns : goal.returns
 returns c =
-    let st = c in
     let g = c.gather-m in
     let w = g.new.out in
     let m = g.result in
-    let many = length-take-le m w (omega (arith, g.auto, st.requires.0.count, st.requires.0.ready.fits.header.unit_count)) in
-    subst (λ (l : List ℕ). take (length l) c.share.new.out ≡ shares st.args.total l) g.ensures.1 (rw many c.share.ensures)
+    let many = length-take-le m w (omega (arith, g.auto, c.requires.0.count, c.requires.0.ready.fits.header.unit_count)) in
+    subst (λ (l : List ℕ). take (length l) c.share.new.out ≡ shares c.args.total l) g.ensures.1 (rw many c.share.ensures)

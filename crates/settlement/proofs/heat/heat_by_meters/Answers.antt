@@ -20,12 +20,11 @@ unit_field-requires c = (omega arith, omega arith)
 
 pub loop-i-preserved : goal.loop-i-preserved
 loop-i-preserved c =
-    let st = c in
     let l = c.loop-i in (
       omega arith,
       (
         simp length-set l.invariant.1.0,
-        turn-row (λ u. true) (λ u. u.reading) st.args.s.now l.out l.i l.i c.unit_field.result 1
+        turn-row (λ u. true) (λ u. u.reading) c.args.s.now l.out l.i l.i c.unit_field.result 1
             (omega arith) (omega arith) c.unit_field.ensures refl l.invariant.1.1,
       ),
     )
@@ -33,8 +32,7 @@ loop-i-preserved c =
 pub returns : goal.returns
 unfolding heat
 returns c =
-    let st = c in
     let l = c.loop-i in
-    let us = (sheet_of st.args.s.now).units in
-    let e : l.i ≡ st.args.basis.units = omega arith in
-    rw (st.requires.2, ← e) (l.invariant.1.1 ∙ ap (map (λ (u : UnitRow). u.reading)) (those-all _ ∙ take_all l.i us (omega arith)))
+    let us = (sheet_of c.args.s.now).units in
+    let e : l.i ≡ c.args.basis.units = omega arith in
+    rw (c.requires.2, ← e) (l.invariant.1.1 ∙ ap (map (λ (u : UnitRow). u.reading)) (those-all _ ∙ take_all l.i us (omega arith)))

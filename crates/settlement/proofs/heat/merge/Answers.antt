@@ -26,8 +26,7 @@ overflow_add-r c = omega (arith, bit_le (eqb c.unit_field-status.result 0))
 
 pub loop-i-preserved : goal.loop-i-preserved
 loop-i-preserved c =
-    let st = c in
-    let a = st.args in
+    let a = c.args in
     let s = sheet_of a.s.now in
     let l = c.loop-i in
     let status = c.unit_field-status.ensures in
@@ -50,8 +49,7 @@ loop-i-preserved c =
 
 pub returns : goal.returns
 returns c =
-    let st = c in
-    let a = st.args in
+    let a = c.args in
     let us = (sheet_of a.s.now).units in
     let l = c.loop-i in
     let e : l.i ≡ a.n = omega arith in

@@ -21,15 +21,14 @@ bounds-weights-m c =
 
 pub share-requires : goal.share-requires
 share-requires c =
-    let st = c in
-    let p = st.requires in
+    let p = c.requires in
     let g = c.gather-m in
     let w = pool-weights p.asked.accepts p.model g.new.out (omega (arith, g.auto)) g.ensures in
-    let s = sheet_of st.args.s.now in
+    let s = sheet_of c.args.s.now in
     let a = p.asked.accepts.accepted in record {
       m_bound = (omega (arith, w.few), simp length-set (omega (arith, w.few, g.auto)), omega (arith, w.few, ap length p.asked.zeros));
       divides = rw w.weights
-          ((omega (arith, p.asked.total-is, units_heat_le st.args.basis.rules s a), λ z. absurd (omega (arith, pool-positive s a))), omega (arith, (weight_bounds s a.checked-sheet st.args.basis.rules).pool));
+          ((omega (arith, p.asked.total-is, units_heat_le c.args.basis.rules s a), λ z. absurd (omega (arith, pool-positive s a))), omega (arith, (weight_bounds s a.checked-sheet c.args.basis.rules).pool));
     }
 
 pub returns : goal.returns

@@ -4,14 +4,13 @@ use Rattle.sheet.proofs.ranges.row_ranges.Goals as goal
 pub returns : goal.returns
 unfolding row_tests
 returns c =
-    let row = c in
     let limits = c.requires.2 in
     rw (
       c.if_read.ensures,
       c.by_class.ensures,
       c.by_class-2.ensures,
-      row.unit_field-status.ensures,
-      row.unit_field-class.ensures,
+      c.unit_field-status.ensures,
+      c.unit_field-class.ensures,
       limits.status,
       limits.class,
       limits.reading,

@@ -14,21 +14,20 @@ pub loop-i-init : goal.loop-i-init
 loop-i-init c = (omega arith, (omega arith, (search rules, refl)))
 
 pub weight-requires : goal.weight-requires
-weight-requires c = let st = c in (record { fits = st.requires.0.fits; inside = omega arith }, st.requires.0)
+weight-requires c = (record { fits = c.requires.0.fits; inside = omega arith }, c.requires.0)
 
 pub bounds-out-m : goal.bounds-out-m
 bounds-out-m c = omega (arith, c.requires.0.fits.header.unit_count)
 
 pub part-m-requires : goal.part-m-requires
-part-m-requires c = let st = c in record { fits = st.requires.0.fits; inside = omega arith }
+part-m-requires c = record { fits = c.requires.0.fits; inside = omega arith }
 
 pub overflow_add-m : goal.overflow_add-m
-overflow_add-m c = let st = c in omega (arith, c.part-m.ensures, bit_le (takes_part st.args.by (unit_of (sheet_of st.args.s.now) c.loop-i.i)))
+overflow_add-m c = omega (arith, c.part-m.ensures, bit_le (takes_part c.args.by (unit_of (sheet_of c.args.s.now) c.loop-i.i)))
 
 pub loop-i-preserved : goal.loop-i-preserved
 loop-i-preserved c =
-    let st = c in
-    let a = st.args in
+    let a = c.args in
     let l = c.loop-i in
     let u = unit_of (sheet_of a.s.now) l.i in (
       omega arith,
@@ -37,7 +36,7 @@ loop-i-preserved c =
         (
           simp length-set l.invariant.1.1.0,
           turn-row (takes_part a.by) (weight_of a.basis.rules a.by (sheet_of a.s.now)) a.s.now l.out l.i l.m c.weight.result c.part-m.result (omega arith)
-              (omega (arith, st.requires.0.fits.header.unit_count)) c.weight.ensures c.part-m.ensures l.invariant.1.1.1,
+              (omega (arith, c.requires.0.fits.header.unit_count)) c.weight.ensures c.part-m.ensures l.invariant.1.1.1,
         ),
       ),
     )
@@ -45,8 +44,7 @@ loop-i-preserved c =
 pub returns : goal.returns
 unfolding weights_by
 returns c =
-    let st = c in
-    let s = sheet_of st.args.s.now in
-    let by = st.args.by in
+    let s = sheet_of c.args.s.now in
+    let by = c.args.by in
     let l = c.loop-i in
-    (omega arith, l.invariant.1.1.1 ∙ ap (chosen (takes_part by) (weight_of st.args.basis.rules by s)) (take_all l.i s.units (omega (arith, st.requires.0.fits.units_length))))
+    (omega arith, l.invariant.1.1.1 ∙ ap (chosen (takes_part by) (weight_of c.args.basis.rules by s)) (take_all l.i s.units (omega (arith, c.requires.0.fits.units_length))))

@@ -10,10 +10,9 @@ use Rattle.weights.proofs.metered.all_metered.Goals as goal
 pub returns-then-head-eq5 : goal.returns-then-head-eq5
 unfolding all_metered
 returns-then-head-eq5 c =
-    let st = c in
-    let r = st.requires.0 in
+    let r = c.requires.0 in
     rw (← c.head.ensures, eq-eqb _ 5 c.if-head-eq5.true)
-    (ap₂ eqb r.totals.read (st.requires.1 ∙ sym r.fits.units_length) ∙ all_read (sheet_of st.args.s.now).units)
+    (ap₂ eqb r.totals.read (c.requires.1 ∙ sym r.fits.units_length) ∙ all_read (sheet_of c.args.s.now).units)
 
 pub returns-else-head-eq5 : goal.returns-else-head-eq5
 unfolding all_metered

@@ -26,12 +26,11 @@ field-requires c = let p = c.requires in record { fits = p.0; inside = omega (ar
 
 pub loop-i-preserved : goal.loop-i-preserved
 loop-i-preserved c =
-    let st = c in
-    let bytes = st.args.s.now in
+    let bytes = c.args.s.now in
     let l = c.loop-i in
     let us = take l.i (sheet_of bytes).units in
     let u = unit_of (sheet_of bytes) l.i in
-    let h : l.i < (sheet_of bytes).unit_count = omega (arith, st.requires.1) in
+    let h : l.i < (sheet_of bytes).unit_count = omega (arith, c.requires.1) in
     let b = c.of.ensures ∙ ap amount_of c.field.ensures in (
       omega arith,
       c.plus-sum.ensures ∙ ap₂ plus_sum l.invariant.1 b ∙ plus_amounts (readings us) u.reading
@@ -41,7 +40,6 @@ loop-i-preserved c =
 pub returns : goal.returns
 unfolding metered_sum
 returns c =
-    let st = c in
-    let us = (sheet_of st.args.s.now).units in
+    let us = (sheet_of c.args.s.now).units in
     let l = c.loop-i in
-    l.invariant.1 ∙ ap (λ (us : List UnitRow). amount_of (readings us)) (take_all l.i us (omega (arith, st.requires.1, units-count st.args.s.now)))
+    l.invariant.1 ∙ ap (λ (us : List UnitRow). amount_of (readings us)) (take_all l.i us (omega (arith, c.requires.1, units-count c.args.s.now)))

@@ -13,6 +13,5 @@ use Rattle.weights.proofs.refusals.meters_exceed.Goals as goal
 pub returns : goal.returns
 unfolding space_heat_wh space_heat hot_water_wh
 returns c =
-    let st = c in
-    let s = sheet_of st.args.s.now in
-    c.past.ensures ∙ ap₂ past_sum st.requires.3 (ap₂ ◌-◌ c.head.ensures st.requires.1) ∙ past-metered s (space_heat_wh s) (sum_bounds s (fits-checked st.requires.0)).metered
+    let s = sheet_of c.args.s.now in
+    c.past.ensures ∙ ap₂ past_sum c.requires.3 (ap₂ ◌-◌ c.head.ensures c.requires.1) ∙ past-metered s (space_heat_wh s) (sum_bounds s (fits-checked c.requires.0)).metered

@@ -19,7 +19,6 @@ returns-then-all_metered c = rw (le-leb 3 (sheet_of c.args.s.now).model (omega (
 pub returns : goal.returns
 unfolding has_pool
 returns c =
-    let st = c in
-    let of = st.requires.0.totals in
-    rw (le-leb 3 (sheet_of st.args.s.now).model (omega (arith, c.head.ensures)), sym c.all_metered.ensures ∙ c.if-all_metered.false)
+    let of = c.requires.0.totals in
+    rw (le-leb 3 (sheet_of c.args.s.now).model (omega (arith, c.head.ensures)), sym c.all_metered.ensures ∙ c.if-all_metered.false)
     (ap₂ (λ (p u : ℕ). ltb (10000 * p) u) of.area of.unread)

@@ -12,10 +12,9 @@ use Rattle.weights.proofs.totals.of_row.Goals as goal
 
 pub returns : goal.returns
 returns c =
-    let st = c in
-    let s = sheet_of st.args.s.now in
-    let u = unit_of s st.args.i in
-    let fits = unit-fits st.requires in
+    let s = sheet_of c.args.s.now in
+    let u = unit_of s c.args.i in
+    let fits = unit-fits c.requires in
     let status = c.field-status.ensures in
     let class = c.field-class.ensures in
     let area = c.field-p.ensures in
@@ -33,4 +32,4 @@ returns c =
       surface = (c.only_if-7.ensures ∙ ap₂ (λ (x y : ℕ). only_if (eqb x 0) y) status c.field-4.ensures) i;
       readings = (c.field-5.ensures ∙ reading_counted fits) i;
     } in
-    (same, subst (Within 1) (sym same) (unit-within s u st.requires.fits.header.unmetered_factor_high fits))
+    (same, subst (Within 1) (sym same) (unit-within s u c.requires.fits.header.unmetered_factor_high fits))

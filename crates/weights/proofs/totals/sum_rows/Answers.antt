@@ -29,19 +29,17 @@ loop-i-init c = (
 )
 
 pub of_row-requires : goal.of_row-requires
-of_row-requires c = let st = c in record { fits = st.requires.0; inside = omega arith }
+of_row-requires c = record { fits = c.requires.0; inside = omega arith }
 
 pub plus-t-requires : goal.plus-t-requires
 plus-t-requires c =
-    let st = c in
     let l = c.loop-i in
-    (prefix-within st.args.s.now l.i l.t st.requires.0 l.invariant.1, c.of_row.ensures.1)
+    (prefix-within c.args.s.now l.i l.t c.requires.0 l.invariant.1, c.of_row.ensures.1)
 
 pub loop-i-preserved : goal.loop-i-preserved
 loop-i-preserved c =
-    let st = c in
     let l = c.loop-i in
-    let s = st.args.s.now in
+    let s = c.args.s.now in
     let us = (sheet_of s).units in
     let u = unit_of (sheet_of s) l.i in
     let e : c.plus-t.result ≡ plus_totals l.t (of_unit (sheet_of s) u) = c.plus-t.ensures ∙ ap (plus_totals l.t) c.of_row.ensures.0 in (
@@ -52,10 +50,9 @@ loop-i-preserved c =
 
 pub returns : goal.returns
 returns c =
-    let st = c in
     let l = c.loop-i in
-    let s = st.args.s.now in
-    let f = st.requires.0 in
+    let s = c.args.s.now in
+    let f = c.requires.0 in
     let us = (sheet_of s).units in
     let all = subst (λ (vs : List UnitRow). Sums (sheet_of s) vs l.t) (take_all l.i us (omega (arith, f.units_length))) l.invariant.1 in
     record {

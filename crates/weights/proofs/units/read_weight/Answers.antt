@@ -17,9 +17,8 @@ by_factor-requires c =
 pub returns-then-model-eq4 : goal.returns-then-model-eq4
 unfolding read_weight
 returns-then-model-eq4 c =
-    let st = c in
-    let t = st.requires.1.totals in
-    let u = unit_of (sheet_of st.args.s.now) st.args.i in
+    let t = c.requires.1.totals in
+    let u = unit_of (sheet_of c.args.s.now) c.args.i in
     rw (eq-eqb _ 0 (sym t.readings ∙ c.if-basis-eq0.true), eq-eqb _ 4 (sym c.head-model.ensures ∙ c.if-model-eq4.true))
     (c.by_factor.ensures ∙ ap (λ (x : ℕ). x * u.location_factor) c.field.ensures)
 
@@ -31,31 +30,27 @@ by_factor-requires-then-basis-eq0 c =
 pub returns-then-basis-eq0 : goal.returns-then-basis-eq0
 unfolding read_weight
 returns-then-basis-eq0 c =
-    let st = c in
-    let t = st.requires.1.totals in
-    let u = unit_of (sheet_of st.args.s.now) st.args.i in
+    let t = c.requires.1.totals in
+    let u = unit_of (sheet_of c.args.s.now) c.args.i in
     rw (eq-eqb _ 0 (sym t.readings ∙ c.if-basis-eq0.true), ne_eqb _ 4 (λ z. c.if-model-eq4.false (c.head-model.ensures ∙ z)))
     (c.by_factor-then-basis-eq0.ensures ∙ ap (λ (x : ℕ). x * u.location_factor) c.field-then-basis-eq0.ensures)
 
 pub returns-then-model-eq3 : goal.returns-then-model-eq3
 unfolding read_weight
 returns-then-model-eq3 c =
-    let st = c in
-    let t = st.requires.1.totals in
+    let t = c.requires.1.totals in
     rw (ne_eqb _ 0 (λ z. c.if-basis-eq0.false (t.readings ∙ z)), eq-eqb _ 3 (sym c.head-model.ensures ∙ c.if-model-eq3.true)) c.area_weight.ensures
 
 pub returns-then-model-eq4-2 : goal.returns-then-model-eq4-2
 unfolding read_weight
 returns-then-model-eq4-2 c =
-    let st = c in
-    let t = st.requires.1.totals in
+    let t = c.requires.1.totals in
     let m = c.head-model.ensures in
     rw (ne_eqb _ 0 (λ z. c.if-basis-eq0.false (t.readings ∙ z)), ne_eqb _ 3 (λ z. c.if-model-eq3.false (m ∙ z)), eq-eqb _ 4 (sym m ∙ c.if-model-eq4-2.true)) c.surface_weight.ensures
 
 pub returns : goal.returns
 unfolding read_weight
 returns c =
-    let st = c in
-    let t = st.requires.1.totals in
+    let t = c.requires.1.totals in
     let m = c.head-model.ensures in
     rw (ne_eqb _ 0 (λ z. c.if-basis-eq0.false (t.readings ∙ z)), ne_eqb _ 3 (λ z. c.if-model-eq3.false (m ∙ z)), ne_eqb _ 4 (λ z. c.if-model-eq4-2.false (m ∙ z))) c.field-2.ensures

@@ -20,22 +20,20 @@ overflow_mul-result c =
 
 pub overflow_mul-result-then-no_device : goal.overflow_mul-result-then-no_device
 overflow_mul-result-then-no_device c =
-    let st = c in
-    let u = unit-fits st.requires in
+    let u = unit-fits c.requires in
     let p : c.field-p.result ≤ 10000 = omega (arith, c.field-p.ensures, u.heated_area) in
     let k : c.field-then-no_device.result ≤ 1000 = omega (arith, c.field-then-no_device.ensures, u.location_factor) in
-    let f : c.head.result ≤ 35 = omega (arith, c.head.ensures, st.requires.fits.header.unmetered_factor_high) in
+    let f : c.head.result ≤ 35 = omega (arith, c.head.ensures, c.requires.fits.header.unmetered_factor_high) in
     omega (arith, three_le p k f)
 
 pub returns-then-no_device : goal.returns-then-no_device
 unfolding unread_weight
 returns-then-no_device c =
-    let st = c in
-    let u = unit-fits st.requires in
+    let u = unit-fits c.requires in
     let p : c.field-p.result ≤ 10000 = omega (arith, c.field-p.ensures, u.heated_area) in
     let k : c.field-then-no_device.result ≤ 1000 = omega (arith, c.field-then-no_device.ensures, u.location_factor) in
-    let f : c.head.result ≤ 35 = omega (arith, c.head.ensures, st.requires.fits.header.unmetered_factor_high) in
-    let status = (unit_of (sheet_of st.args.s.now) st.args.i).status in
+    let f : c.head.result ≤ 35 = omega (arith, c.head.ensures, c.requires.fits.header.unmetered_factor_high) in
+    let status = (unit_of (sheet_of c.args.s.now) c.args.i).status in
     let e : (eqb status 1 || eqb status 4) ≡ true = sym (ap (λ (x : ℕ). eqb x 1 || eqb x 4) c.field.ensures) ∙ sym c.no_device.ensures ∙ c.if-no_device.true in
     (rw (e, c.field-p.ensures, c.field-then-no_device.ensures, c.head.ensures), omega (arith, three_le p k f))
 
@@ -47,8 +45,7 @@ overflow_mul-result-2 c =
 pub returns : goal.returns
 unfolding unread_weight
 returns c =
-    let st = c in
-    let u = unit-fits st.requires in
-    let status = (unit_of (sheet_of st.args.s.now) st.args.i).status in
+    let u = unit-fits c.requires in
+    let status = (unit_of (sheet_of c.args.s.now) c.args.i).status in
     let e : (eqb status 1 || eqb status 4) ≡ false = sym (ap (λ (x : ℕ). eqb x 1 || eqb x 4) c.field.ensures) ∙ sym c.no_device.ensures ∙ c.if-no_device.false in
     (rw (e, c.field-p.ensures), omega (arith, c.field-p.ensures, u.heated_area))

@@ -49,9 +49,8 @@ overflow_add-result c =
 pub returns : goal.returns
 unfolding water_weight
 returns c =
-    let st = c in
-    let s = sheet_of st.args.s.now in
-    let u = unit_of s st.args.i in
-    let t = st.requires.1.totals in
+    let s = sheet_of c.args.s.now in
+    let u = unit_of s c.args.i in
+    let t = c.requires.1.totals in
     rw (c.only_if.ensures, c.only_if-2.ensures, c.field-class.ensures, c.class_factor-litre.ensures.0, c.class_factor-person.ensures.0, c.field.ensures, c.field-2.ensures, t.class1, t.class2, t.persons2, t.litres)
-    (weighed u.water_class u.litres u.persons (units_of_class 1 s) (units_of_class 2 s) (litres_of_class1 s) (persons_of_class2 s) (unit-fits st.requires.0).water_class)
+    (weighed u.water_class u.litres u.persons (units_of_class 1 s) (units_of_class 2 s) (litres_of_class1 s) (persons_of_class2 s) (unit-fits c.requires.0).water_class)

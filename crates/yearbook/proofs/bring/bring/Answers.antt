@@ -7,10 +7,9 @@ returns-then-bad_book c = let a = c.args in bring_15 a.replacing _ a.sheet.now (
 
 pub returns-in_default : goal.returns-in_default
 returns-in_default c =
-    let one = c in let a = c.args in let e = c.in_default.is in
-    rw e (bring_unchecked a.replacing _ a.sheet.now (sym one.bad_book.ensures ∙ one.if-bad_book.false) _ (sym c.check_sheet-outcome.ensures ∙ e))
+    let a = c.args in let e = c.in_default.is in
+    rw e (bring_unchecked a.replacing _ a.sheet.now (sym c.bad_book.ensures ∙ c.if-bad_book.false) _ (sym c.check_sheet-outcome.ensures ∙ e))
 
 pub settle_into-requires : goal.settle_into-requires
 settle_into-requires c =
-    let one = c in
-    record { sound = sym one.bad_book.ensures ∙ one.if-bad_book.false; checked-sheet = sym c.check_sheet-outcome.ensures ∙ c.in-Accepted.is }
+    record { sound = sym c.bad_book.ensures ∙ c.if-bad_book.false; checked-sheet = sym c.check_sheet-outcome.ensures ∙ c.in-Accepted.is }

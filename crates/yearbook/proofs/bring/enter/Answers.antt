@@ -36,12 +36,11 @@ pub header_field-n-requires : goal.header_field-n-requires
 header_field-n-requires c = (omega (arith, (brings_fits c.requires).byte_count), omega arith)
 
 pub other_building-requires : goal.other_building-requires
-other_building-requires c = let s = c in (brings_size s.requires, brings_rows s.requires _ c.header_field-n.ensures)
+other_building-requires c = (brings_size c.requires, brings_rows c.requires _ c.header_field-n.ensures)
 
 pub returns-then-other_building : goal.returns-then-other_building
 returns-then-other_building c =
-    let s = c in
-    bring_16 s.args.replacing _ s.args.sheet.now s.requires.passed.sound _ s.requires.settles (sym c.other_building.ensures ∙ c.if-other_building.true)
+    bring_16 c.args.replacing _ c.args.sheet.now c.requires.passed.sound _ c.requires.settles (sym c.other_building.ensures ∙ c.if-other_building.true)
 
 pub header_field-requires : goal.header_field-requires
 header_field-requires c = (omega (arith, (brings_fits c.requires).byte_count), omega arith)
@@ -51,23 +50,21 @@ overflow_sub-i c = brings_low c.requires _ c.header_field.ensures
 
 pub bounds-book-i : goal.bounds-book-i
 bounds-book-i c =
-    let s = c in let month = c.header_field.ensures in
-    omega (arith, brings_size s.requires, brings_low s.requires _ month, brings_high s.requires _ month)
+    let month = c.header_field.ensures in
+    omega (arith, brings_size c.requires, brings_low c.requires _ month, brings_high c.requires _ month)
 
 pub returns-then-wrong_mark : goal.returns-then-wrong_mark
 returns-then-wrong_mark c =
-    let s = c in
-    bring_17 s.args.replacing _ s.args.sheet.now s.requires.passed.sound _ s.requires.settles (sym c.other_building.ensures ∙ c.if-other_building.false)
-    (brings_wrong s.requires _ c.header_field.ensures s.args.replacing ∙ sym c.wrong_mark.ensures ∙ c.if-wrong_mark.true)
+    bring_17 c.args.replacing _ c.args.sheet.now c.requires.passed.sound _ c.requires.settles (sym c.other_building.ensures ∙ c.if-other_building.false)
+    (brings_wrong c.requires _ c.header_field.ensures c.args.replacing ∙ sym c.wrong_mark.ensures ∙ c.if-wrong_mark.true)
 
 pub update_sums-requires : goal.update_sums-requires
 update_sums-requires c = brings_new c.requires _ _ c.header_field.ensures c.header_field-n.ensures
 
 pub returns-then-not-update_sums : goal.returns-then-not-update_sums
 returns-then-not-update_sums c =
-    let s = c in
-    let f = update-false (made s.args.replacing s.requires c.header_field.ensures c.update_sums.ensures) c.if-not-update_sums.true in
-    rw f.1 (bring_19 s.args.replacing _ s.args.sheet.now s.requires.passed.sound _ s.requires.settles (sym c.other_building.ensures ∙ c.if-other_building.false) (right s.args.replacing s.requires c.header_field.ensures c.wrong_mark.ensures c.if-wrong_mark.false) f.0)
+    let f = update-false (made c.args.replacing c.requires c.header_field.ensures c.update_sums.ensures) c.if-not-update_sums.true in
+    rw f.1 (bring_19 c.args.replacing _ c.args.sheet.now c.requires.passed.sound _ c.requires.settles (sym c.other_building.ensures ∙ c.if-other_building.false) (right c.args.replacing c.requires c.header_field.ensures c.wrong_mark.ensures c.if-wrong_mark.false) f.0)
 
 pub header_field-meter-requires : goal.header_field-meter-requires
 header_field-meter-requires c = (omega (arith, (brings_fits c.requires).byte_count), omega arith)
@@ -80,13 +77,12 @@ overflow_cast-bill c = record { fits = omega (arith, c.bill_cents-bill.ensures, 
 
 pub put_month-requires : goal.put_month-requires
 put_month-requires c =
-    let s = c in let month = c.header_field.ensures in
-    (brings_size s.requires, omega (arith, brings_low s.requires _ month, brings_high s.requires _ month), brings_block s.requires)
+    let month = c.header_field.ensures in
+    (brings_size c.requires, omega (arith, brings_low c.requires _ month, brings_high c.requires _ month), brings_block c.requires)
 
 pub returns : goal.returns
 unfolding with_sheet
 returns c =
-    let s = c in
-    let t = update-true (made s.args.replacing s.requires c.header_field.ensures c.update_sums.ensures) c.if-not-update_sums.false in
-    rw (c.put_month.ensures, brings_write s.requires _ c.header_field.ensures _ _ c.header_field-meter.ensures c.bill_cents-bill.ensures, t.1)
-    (bring_accepted s.args.replacing _ s.args.sheet.now s.requires.passed.sound _ s.requires.settles (sym c.other_building.ensures ∙ c.if-other_building.false) (right s.args.replacing s.requires c.header_field.ensures c.wrong_mark.ensures c.if-wrong_mark.false) t.0)
+    let t = update-true (made c.args.replacing c.requires c.header_field.ensures c.update_sums.ensures) c.if-not-update_sums.false in
+    rw (c.put_month.ensures, brings_write c.requires _ c.header_field.ensures _ _ c.header_field-meter.ensures c.bill_cents-bill.ensures, t.1)
+    (bring_accepted c.args.replacing _ c.args.sheet.now c.requires.passed.sound _ c.requires.settles (sym c.other_building.ensures ∙ c.if-other_building.false) (right c.args.replacing c.requires c.header_field.ensures c.wrong_mark.ensures c.if-wrong_mark.false) t.0)

@@ -16,16 +16,16 @@ slice_bounds-settle_checked-end c = sym (part_length c.requires _ c.header_field
 
 pub returns-in_default : goal.returns-in_default
 returns-in_default c =
-    let s = c in let settled = c.settle_checked-outcome in let e = c.in_default.is in
-    rw e (bring_unsettled s.args.replacing _ s.args.sheet.now s.requires.sound _ s.requires.checked-sheet
-    (part-refused s.requires _ c.header_field-n.ensures _ settled.ensures.value _ e))
+    let settled = c.settle_checked-outcome in let e = c.in_default.is in
+    rw e (bring_unsettled c.args.replacing _ c.args.sheet.now c.requires.sound _ c.requires.checked-sheet
+    (part-refused c.requires _ c.header_field-n.ensures _ settled.ensures.value _ e))
 
 pub slice_bounds-enter-end : goal.slice_bounds-enter-end
 slice_bounds-enter-end c =
-    let s = c in let settled = c.settle_checked-outcome in
-    sym (brings_block (part-settled s.requires _ c.header_field-n.ensures _ settled.ensures.value c.in-Accepted.is _ settled.ensures.statement_after))
+    let settled = c.settle_checked-outcome in
+    sym (brings_block (part-settled c.requires _ c.header_field-n.ensures _ settled.ensures.value c.in-Accepted.is _ settled.ensures.statement_after))
 
 pub enter-requires : goal.enter-requires
 enter-requires c =
-    let s = c in let settled = c.settle_checked-outcome in
-    part-settled s.requires _ c.header_field-n.ensures _ settled.ensures.value c.in-Accepted.is _ settled.ensures.statement_after
+    let settled = c.settle_checked-outcome in
+    part-settled c.requires _ c.header_field-n.ensures _ settled.ensures.value c.in-Accepted.is _ settled.ensures.statement_after
