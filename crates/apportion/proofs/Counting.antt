@@ -1,5 +1,6 @@
 -- Counts of the keys that reach a number. Assumes nothing.
 use mathlib.Core.Path.{◌≡◌, refl}
+use mathlib.Core.Bool.{Bool, true, false}
 use mathlib.Core.List.{List, [], ◌∷◌, ◌++◌}
 use mathlib.Core.Logic.{◌⊎◌, inl, inr}
 use Prim.Native.Nat.{ℕ, ◌+◌, ◌≤◌, ◌<◌, min, max}
@@ -7,7 +8,8 @@ use native.Mathlib.Decide.{dec_le}
 use native.Mathlib.Omega.{arith}
 use borrow.Author.Tests.{le-leb, lt-leb}
 use lib.Dec.{leb, ltb}
-use lib.ListN.{length}
+use lib.ListN.{length, take, length-take}
+use Rattle.std.specs.Int.{from_bool}
 use Rattle.apportion.specs.Shares.{bit, at_least}
 use Rattle.apportion.specs.Inner.Selection.{largest, Counted}
 
@@ -20,6 +22,15 @@ bit_no m k h = rw (lt-leb m k h)
 
 pub bit-cases : (m k : ℕ) → ((m ≤ k) × (bit (leb m k) ≡ 1)) ⊎ ((k < m) × (bit (leb m k) ≡ 0))
 bit-cases m k = elim (dec_le m k) [ yes h ↦ inl (h, bit-yes m k h) | no h ↦ inr (omega arith, bit_no m k (omega arith)) ]
+
+-- std's number of a test
+pub bit-from_bool : (b : Bool) → from_bool b ≡ bit b
+bit-from_bool true = refl
+bit-from_bool false = refl
+
+pub from_bool_le : (b : Bool) → from_bool b ≤ 1
+from_bool_le true = omega arith
+from_bool_le false = omega arith
 
 pub bit-min : (s : ℕ) → bit (ltb 0 s) ≡ min 1 s
 bit-min s = elim (bit-cases 1 s) [ inl a ↦ omega arith | inr a ↦ omega arith ]
@@ -38,16 +49,23 @@ at_zero (k ∷ ks) = omega (arith, at_zero ks, bit-yes 0 k (omega arith))
 pub count_le : (m : ℕ) (ks : List ℕ) → at_least m ks ≤ length ks
 count_le m ks = omega (arith, antitone 0 m ks (omega arith), at_zero ks)
 
-pub past-largest : (m : ℕ) (ks : List ℕ) → largest ks < m → at_least m ks ≡ 0
-past-largest m [] h = refl
-past-largest m (k ∷ ks) h = omega (arith, past-largest m ks (omega arith), bit_no m k (omega arith))
+pub no_higher : (m : ℕ) (ks : List ℕ) → largest ks < m → at_least m ks ≡ 0
+no_higher m [] h = refl
+no_higher m (k ∷ ks) h = omega (arith, no_higher m ks (omega arith), bit_no m k (omega arith))
 
-pub largest-positive : (ks : List ℕ) → 0 < at_least 1 ks → 0 < largest ks
-largest-positive ks h = elim (dec_le 1 (largest ks)) [ yes g ↦ g | no g ↦ absurd (omega (arith, past-largest 1 ks (omega arith))) ]
+pub largest_positive : (ks : List ℕ) → 0 < at_least 1 ks → 0 < largest ks
+largest_positive ks h = elim (dec_le 1 (largest ks)) [ yes g ↦ g | no g ↦ absurd (omega (arith, no_higher 1 ks (omega arith))) ]
 
 pub count_snoc : (m : ℕ) (ks : List ℕ) (k : ℕ) → at_least m (ks ++ (k ∷ [])) ≡ at_least m ks + bit (leb m k)
 count_snoc m [] k = omega arith
 count_snoc m (j ∷ ks) k = omega (arith, count_snoc m ks k)
+
+pub so_far_le : (m i : ℕ) (ks : List ℕ) → at_least m (take i ks) ≤ i
+so_far_le m i ks = omega (arith, count_le m (take i ks), length-take i ks)
+
+-- what more keys reach is the lower number
+pub under : (lo hi : ℕ) (ks : List ℕ) → at_least hi ks < at_least lo ks → lo < hi
+under lo hi ks h = elim (dec_le hi lo) [ yes g ↦ absurd (omega (arith, antitone hi lo ks g)) | no g ↦ omega arith ]
 
 -- ---- `Counted` with one key more, below m or not
 module _ (m k lo hi count below above : ℕ) (ks : List ℕ) (c : Counted m lo hi count below above ks) where
@@ -94,10 +112,3 @@ module _ (m k lo hi count below above : ℕ) (ks : List ℕ) (c : Counted m lo h
           c.same_above,
         );
       }
-
-  -- the bracket narrows, and stays one
-  pub above-under : at_least hi ks < count → above < hi
-  above-under h = elim (dec_le hi above) [ yes g ↦ absurd (omega (arith, antitone hi above ks g, c.same_above, c.is-count)) | no g ↦ omega arith ]
-
-  pub below-over : count < at_least lo ks → lo < below
-  below-over h = elim (dec_le below lo) [ yes g ↦ absurd (omega (arith, antitone below lo ks g, c.same-below, c.is-count)) | no g ↦ omega arith ]

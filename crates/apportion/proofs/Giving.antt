@@ -2,14 +2,14 @@
 use mathlib.Core.Path.{◌≡◌, refl, sym, ap, ap₂, ◌∙◌}
 use mathlib.Core.Bool.{Bool, true, false}
 use mathlib.Core.List.{List, [], ◌∷◌}
-use Prim.Native.Nat.{ℕ, zero, suc, ◌+◌, ◌-◌, ◌≤◌, ◌<◌}
+use Prim.Native.Nat.{ℕ, zero, suc, ◌+◌, ◌-◌, ◌≤◌}
 use native.Mathlib.Omega.{arith}
 use borrow.Author.Tests.{eq-eqb, ne_eqb}
 use lib.Dec.{ltb, eqb}
 use lib.ListN.{get_or}
 use Rattle.apportion.specs.Shares.{bit, extras, added}
 use Rattle.apportion.specs.Inner.Selection.{Cuts, one, spare_after, given, tie, ties}
-use Rattle.apportion.proofs.Counting.{bit-yes, bit-min}
+use Rattle.apportion.proofs.Counting.{bit-min}
 use Rattle.apportion.proofs.Takers.{case, above, level, under, one_le, extras-given}
 
 -- ---- with none to spare only the keys above get one
@@ -29,16 +29,9 @@ one_each θ s (x ∷ xs) (k ∷ ks) zero = omega (arith, one_le θ s k)
 one_each θ s (x ∷ xs) (k ∷ ks) (suc j) = one_each θ (spare_after θ s k) xs ks j
 
 -- ---- ties
-tie-some : (b : Bool) (s : ℕ) → 0 < s → tie b s ≡ bit b
-tie-some true s h = bit-yes 1 s h
-tie-some false s h = refl
-
 tie_none : (b : Bool) → tie b 0 ≡ 0
 tie_none true = refl
 tie_none false = refl
-
-pub ties-next : (θ s k b : ℕ) (ks : List ℕ) → 0 < s → b ≡ bit (eqb k θ) → ties θ s (k ∷ ks) ≡ b ∷ ties θ (s - b) ks
-ties-next θ s k b ks h e = ap (λ (x : ℕ). x ∷ ties θ (s - x) ks) (tie-some (eqb k θ) s h ∙ sym e)
 
 pub no_ties : (θ : ℕ) (xs ks : List ℕ) → added xs (ties θ 0 ks) ≡ xs
 no_ties θ [] ks = refl
@@ -64,9 +57,9 @@ above-then-ties θ s (x ∷ xs) (k ∷ ks) =
     ∙ ap₂ (λ (y : ℕ) (ys : List ℕ). y ∷ ys) {x = x + bit (ltb θ k) + t} {y = x + one θ s k} (omega (arith, (both θ s k).0))
     (above-then-ties θ (s - t) xs ks ∙ ap (λ (r : ℕ). added xs (given θ r ks)) (both θ s k).1)
 
-pub leftover-given : (left θ spare : ℕ) (ks out : List ℕ) {mid last : List ℕ} → Cuts left θ spare ks
+pub leftover_given : (left θ spare : ℕ) (ks out : List ℕ) {mid last : List ℕ} → Cuts left θ spare ks
     → mid ≡ added out (given θ 0 ks) → last ≡ added mid (ties θ spare ks) → last ≡ added out (extras left [] ks)
-leftover-given left θ spare ks out h m l =
+leftover_given left θ spare ks out h m l =
     l
     ∙ ap (λ (xs : List ℕ). added xs (ties θ spare ks)) m
     ∙ above-then-ties θ spare out ks

@@ -1,27 +1,20 @@
 -- The keys near the threshold: those in a bracket, and what they tell of all keys. Assumes nothing.
 use mathlib.Core.Path.{◌≡◌, refl, sym, ap, ◌∙◌}
-use mathlib.Core.Bool.{Bool, true, false}
 use mathlib.Core.List.{List, [], ◌∷◌, ◌++◌, append-nil}
-use Prim.Native.Nat.{ℕ, suc, ◌+◌, ◌*◌, ◌-◌, ◌/◌, ◌%◌, ◌≤◌, ◌<◌}
-use native.Mathlib.Nat.{mul-le-mul_left, div-mul-le_self, mod-eq_of_lt}
-use native.Mathlib.Decide.{dec_le}
+use Prim.Native.Nat.{ℕ, suc, ◌+◌, ◌-◌, ◌%◌, ◌≤◌, ◌<◌}
+use native.Mathlib.Nat.{mod-eq_of_lt}
+use native.Mathlib.Decide.{dec_le, dec_lt}
 use native.Mathlib.Omega.{arith}
 use borrow.Author.Tests.{le-leb, lt-leb}
 use lib.Dec.{leb}
 use lib.ListN.{length, take, set, length-append}
 use lib.Seq.{take-set-le, take-suc-set}
+use Rattle.std.specs.Int.{from_bool}
+use Rattle.std.specs.Prelude.{◌&&◌, nat_le, nat_lt}
+use Rattle.std.proofs.lemmas.List.Elements.{filter-append}
 use Rattle.apportion.specs.Shares.{bit, at_least}
-use Rattle.apportion.specs.Inner.Selection.{keep, inside, Collected, Cuts}
-use Rattle.apportion.proofs.Counting.{bit-yes, bit_no, antitone, count_le, count_snoc}
-
--- wanted of among parts of a width are no more than the width
-pub part_le : (width among wanted : ℕ) → wanted ≤ among → width / among * wanted ≤ width
-part_le width among wanted h = omega (arith, mul-le-mul_left (width / among) h, div-mul-le_self width among)
-
-keep_append : (a b : Bool) (k : ℕ) (xs ys : List ℕ) → keep a b k (xs ++ ys) ≡ keep a b k xs ++ ys
-keep_append false b k xs ys = refl
-keep_append true true k xs ys = refl
-keep_append true false k xs ys = refl
+use Rattle.apportion.specs.Inner.Selection.{inside, Collected, Cuts}
+use Rattle.apportion.proofs.Counting.{bit-yes, bit_no, bit-from_bool, count_le, count_snoc, under}
 
 module _ (lo hi : ℕ) (bracket : lo ≤ hi) where
   -- a key below, in or above the bracket
@@ -33,7 +26,7 @@ module _ (lo hi : ℕ) (bracket : lo ≤ hi) where
   place : (k : ℕ) → Place k
   place k =
       elim (dec_le lo k) [
-        | yes h ↦ elim (dec_le hi k) [ yes g ↦ past g (λ ks. rw (le-leb lo k h, le-leb hi k g)) | no g ↦ within h (omega arith) (λ ks. rw (le-leb lo k h, lt-leb hi k (omega arith))) ]
+        | yes h ↦ elim (dec_lt k hi) [ yes g ↦ within h g (λ ks. rw (le-leb lo k h, le-leb (suc k) hi g)) | no g ↦ past (omega arith) (λ ks. rw (le-leb lo k h, lt-leb (suc k) hi (omega arith))) ]
         | no h ↦ below (omega arith) (λ ks. rw (lt-leb lo k (omega arith)))
       ]
 
@@ -62,13 +55,10 @@ module _ (lo hi : ℕ) (bracket : lo ≤ hi) where
   none-past ks = omega (arith, above_and_inside hi bracket (omega arith) ks)
 
   some-inside : (ks : List ℕ) → 0 < length (inside lo hi ks) → lo < hi
-  some-inside ks h =
-      elim (dec_le hi lo) [ yes g ↦ absurd (omega (arith, above_and_inside lo (omega arith) bracket ks, all-inside ks, antitone hi lo ks g)) | no g ↦ omega arith ]
+  some-inside ks h = under lo hi (inside lo hi ks) (omega (arith, all-inside ks, none-past ks))
 
   inside_snoc : (ks : List ℕ) (k : ℕ) → inside lo hi (ks ++ (k ∷ [])) ≡ inside lo hi ks ++ inside lo hi (k ∷ [])
-  inside_snoc [] k = refl
-  inside_snoc (j ∷ ks) k =
-      ap (keep (leb lo j) (leb hi j) j) (inside_snoc ks k) ∙ keep_append (leb lo j) (leb hi j) j (inside lo hi ks) (inside lo hi (k ∷ []))
+  inside_snoc ks k = filter-append (λ j. nat_le lo j && nat_lt j hi) ks (k ∷ [])
 
   pub collected_le : {above n : ℕ} {near ks : List ℕ} → Collected lo hi above n near ks → above + n ≤ length ks
   collected_le {ks = ks} c =
@@ -76,12 +66,12 @@ module _ (lo hi : ℕ) (bracket : lo ≤ hi) where
 
   -- the keys written serve to find the threshold, if it lies in the bracket
   module _ {above n left : ℕ} {near ks : List ℕ} (c : Collected lo hi above n near ks) (few : n < 128) (a : above < left) (b : left ≤ above + n) where
-    pub to_narrow : (lo < hi) × (n ≡ at_least lo (take n near)) × (at_least hi (take n near) ≡ 0) × (0 < left - above) × (left - above ≤ n)
+    pub to_narrow : (lo < hi) × (n ≡ at_least lo (take n near)) × (0 ≡ at_least hi (take n near)) × (0 < left - above) × (left - above ≤ n)
     to_narrow =
         let e = c.is_near few in (
           some-inside ks (omega (arith, c.is_within)),
           omega (arith, c.is_within, ap (at_least lo) e, all-inside ks),
-          ap (at_least hi) e ∙ none-past ks,
+          sym (ap (at_least hi) e ∙ none-past ks),
           omega arith,
           omega arith,
         )
@@ -119,8 +109,10 @@ module _ (lo hi : ℕ) (bracket : lo ≤ hi) where
               ∙ sym more;
         }
 
-    pub collected_with : {a p : ℕ} → a ≡ bit (leb lo k) → p ≡ bit (leb hi k) → Collected lo hi (above + p) (n + (a - p)) written (ks ++ (k ∷ []))
-    collected_with {a} {p} ea ep =
+    pub collected_with : {a p : ℕ} → a ≡ from_bool (leb lo k) → p ≡ from_bool (leb hi k) → Collected lo hi (above + p) (n + (a - p)) written (ks ++ (k ∷ []))
+    collected_with {a} {p} fa fp =
+        let ea = fa ∙ bit-from_bool (leb lo k) in
+        let ep = fp ∙ bit-from_bool (leb hi k) in
         elim (place k) [
           | below h e ↦ to n (omega (arith, bit_no lo k h)) (not_kept_lem (e []))
           | within h g e ↦ to (n + 1) (omega (arith, bit-yes lo k h, bit_no hi k g)) (kept (e []))
@@ -128,4 +120,4 @@ module _ (lo hi : ℕ) (bracket : lo ≤ hi) where
         ]
       where
         to : (m : ℕ) → n + (a - p) ≡ m → Collected lo hi (above + bit (leb hi k)) m written (ks ++ (k ∷ [])) → Collected lo hi (above + p) (n + (a - p)) written (ks ++ (k ∷ []))
-        to m e x = rw (e, ep) x
+        to m e x = rw (e, fp ∙ bit-from_bool (leb hi k)) x

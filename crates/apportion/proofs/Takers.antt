@@ -10,7 +10,7 @@ use lib.Dec.{leb, ltb}
 use lib.ListN.{length}
 use Rattle.apportion.specs.Shares.{bit, sum, at_least, extras}
 use Rattle.apportion.specs.Inner.Selection.{largest, Threshold, one, spare_after, given}
-use Rattle.apportion.proofs.Counting.{bit-yes, bit_no, bit-cases, bit-min, antitone, at_zero, past-largest}
+use Rattle.apportion.proofs.Counting.{bit-yes, bit_no, bit-cases, bit-min, antitone, at_zero, no_higher}
 
 -- a key above, at or below θ, with its bits and what it is given
 pub data Case (θ spare k : ℕ) : Type 0 where
@@ -82,7 +82,7 @@ sum-given θ spare (k ∷ ks) =
 
 pub sum-extras : (left : ℕ) (ks : List ℕ) → left ≤ length ks → sum (extras left [] ks) ≡ left
 sum-extras left ks h =
-    let t = threshold left ks (suc (largest ks)) (omega (arith, past-largest (suc (largest ks)) ks (omega arith))) (omega (arith, at_zero ks)) in
+    let t = threshold left ks (suc (largest ks)) (omega (arith, no_higher (suc (largest ks)) ks (omega arith))) (omega (arith, at_zero ks)) in
     ap sum (extras-given left t.0 ks t.1) ∙ omega (arith, sum-given t.0 (left - at_least (suc t.0) ks) ks)
 
 pub length-extras : (left : ℕ) (earlier later : List ℕ) → length (extras left earlier later) ≡ length later

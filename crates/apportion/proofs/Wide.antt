@@ -1,10 +1,26 @@
 -- The arithmetic of `divided` over natural numbers, with products as unknowns of `omega`. Assumes nothing.
 use mathlib.Core.Path.{◌≡◌, sym, ap, ◌∙◌}
-use Prim.Native.Nat.{ℕ, ◌+◌, ◌*◌, ◌-◌, ◌/◌, ◌%◌, ◌^◌, ◌≤◌, ◌<◌}
+use Prim.Native.Nat.{ℕ, suc, ◌+◌, ◌*◌, ◌-◌, ◌/◌, ◌%◌, ◌^◌, ◌≤◌, ◌<◌}
 use native.Mathlib.Nat.{mul-le-mul, mul-le-mul_left, mul-add, add-mul, mul_comm, mul_assoc, mul-sub, mul-div_cancel, div-add-mod', mod-lt, div-le_of_le-mul, div-lt_iff_lt-mul, add-mul-div_left, add-mul-mod_self_left}
+use native.Mathlib.Decide.{dec_lt}
 use native.Mathlib.Omega.{arith}
+use lib.Pow.{shl_lt, pow_mono}
+use lib.Count.{count_leading_zeros, leading_top}
 use lib.Arith.{digits_div, digits_mod}
 
+-- ---- how far a divisor can be shifted up
+-- of two powers of 2 the smaller has the smaller exponent
+below : (j k a : ℕ) → 2 ^ j ≤ a → a < 2 ^ k → j < k
+below j k a lo hi = elim (dec_lt j k) [ yes h ↦ h | no h ↦ absurd (let g : 2 ^ k ≤ 2 ^ j = pow_mono (omega arith) in omega arith) ]
+
+pub fits : (a : ℕ) → 0 < a → a < 2 ^ 62 → (2 ≤ count_leading_zeros 64 a) × (count_leading_zeros 64 a - 2 < 64) × (a * 2 ^ (count_leading_zeros 64 a - 2) < 2 ^ 62)
+fits a hp hl =
+    let top = leading_top 64 a hp (omega arith) in
+    let j-lt : top.0 < 62 = below top.0 62 a top.2 hl in
+    let e : suc top.0 + (count_leading_zeros 64 a - 2) ≡ 62 = omega arith in
+    (omega arith, omega arith, rw e at (shl_lt (suc top.0) (count_leading_zeros 64 a - 2) top.3))
+
+-- ---- the division
 -- where the product is cut
 abbrev cut : ℕ
 cut = 0x8000_0000

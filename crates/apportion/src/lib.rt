@@ -2,7 +2,6 @@
 #![tactic(auto)]
 
 mod narrowing;
-mod order;
 mod quotas;
 mod quotient;
 mod selection;
@@ -10,8 +9,9 @@ mod selection;
 ghost use Rattle.std.specs.Prelude.{◌≡◌, ◌-◌, ◌^◌, ◌<◌, length};
 ghost use Rattle.apportion.specs.Shares.{sum, shares, remainders};
 
-pub use order::{larger, smaller};
-pub use quotas::sum_of;
+use narrowing::Leftover;
+use quotas::sum_of;
+use quotient::Divisor;
 
 // Divides the total by the weights. `scratch` then holds the remainders.
 pub fn apportion(total: u64, ws: &[u64], scratch: &mut [u64], out: &mut [u32])
@@ -21,15 +21,16 @@ pub fn apportion(total: u64, ws: &[u64], scratch: &mut [u64], out: &mut [u32])
 {
     // Many totals are 0. The weights of any other have a sum above 0.
     if total == 0 {
-        quotas::no_remainders(scratch);
-        quotas::no_quotas(out);
+        scratch.fill(0);
+        out.fill(0);
         return;
     }
-    let whole = quotas::sum_of(ws);
-    let down = quotas::round_down(total, whole, ws, scratch, out);
+    let whole = sum_of(ws);
+    let divisor = Divisor::new(whole);
+    let down = quotas::round_down(total, divisor, ws, scratch, out);
     let left = total - down.sum;
     if left == 0 {
         return;
     }
-    selection::give_leftover(left, down.largest, down.positive, scratch, out);
+    Leftover::new(scratch, left, down.largest, down.positive).give(out);
 }

@@ -7,8 +7,43 @@ pub struct Division {
     pub remainder: u64,
 }
 
+// W, and by how much it can be shifted up and stay below 2^62.
+#[derive(Clone, Copy)]
+pub struct Divisor {
+    pub whole: u64,
+    shift: u32,
+    ghost positive: { 0 < whole },
+    ghost shift_fits: { (shift < 64) × (whole * 2 ^ shift < 2 ^ 62) },
+}
+
+impl Divisor {
+    #[tactic(auto, using(crate::proofs::Wide::fits))]
+    pub(crate) fn new(whole: u64) -> Divisor
+        requires { (0 < whole) × (whole < 2 ^ 62) }
+        ensures { result.whole ≡ whole }
+    {
+        Divisor {
+            whole,
+            shift: whole.leading_zeros() - 2,
+        }
+    }
+
+    // Weight and divisor are shifted up by as much as fits: the quotient stays, the remainder is shifted back.
+    pub(crate) fn divide(self, t: u64, w: u64) -> Division
+        requires { (t < 2 ^ 32) × (w ≤ self.whole) }
+        ensures { (result.quotient ≡ t * w / self.whole) × (result.remainder ≡ t * w % self.whole) }
+    {
+        let shifted = divided(t, w << self.shift, self.whole << self.shift);
+        Division {
+            quotient: shifted.quotient,
+            remainder: shifted.remainder >> self.shift,
+        }
+    }
+}
+
 // The product is cut at bit 31. The quotient is first taken by the divisor's upper part plus one, which gives no more
 // than the true one, and is then counted up; a divisor near 2^62 leaves only a few steps.
+#[tactic(auto, using(crate::proofs::Wide::wide))]
 fn divided(t: u64, w: u64, whole: u64) -> Division
     requires { (t < 2 ^ 32) × (w ≤ whole) × (0 < whole) × (whole < 2 ^ 62) }
     ensures { (result.quotient * whole + result.remainder ≡ t * w) × (result.remainder < whole) }
@@ -29,26 +64,5 @@ fn divided(t: u64, w: u64, whole: u64) -> Division
     Division {
         quotient: q,
         remainder: r,
-    }
-}
-
-// How far the divisor can be shifted up and stay below 2^62.
-fn room(whole: u64) -> u32
-    requires { (0 < whole) × (whole < 2 ^ 62) }
-    ensures { (result < 64) × (whole * 2 ^ result < 2 ^ 62) }
-{
-    u64::leading_zeros(whole) - 2
-}
-
-// Weight and divisor are shifted up by as much as fits: the quotient stays, the remainder is shifted back.
-pub(crate) fn mul_div(t: u64, w: u64, whole: u64) -> Division
-    requires { (t < 2 ^ 32) × (w ≤ whole) × (0 < whole) × (whole < 2 ^ 62) }
-    ensures { (result.quotient ≡ t * w / whole) × (result.remainder ≡ t * w % whole) }
-{
-    let k = room(whole);
-    let o = divided(t, w << k, whole << k);
-    Division {
-        quotient: o.quotient,
-        remainder: o.remainder >> k,
     }
 }

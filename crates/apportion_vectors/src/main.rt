@@ -2,165 +2,114 @@
 // total (u32) and as many weights (u64) as the count says, all little-endian.
 #![tactic(auto)]
 
-mod bytes;
-mod text;
-
-ghost use Rattle.std.specs.Prelude.{true, ◌≡◌, ◌-◌, ◌^◌, ◌≤◌, ◌<◌, IfOk, length};
+ghost use Rattle.std.specs.Prelude.{true, ◌≡◌, ◌+◌, ◌-◌, ◌*◌, ◌%◌, ◌^◌, ◌≤◌, ◌<◌, IfOk, IfSome, length};
 ghost use Rattle.apportion.specs.Shares.{sum};
-ghost use Rattle.std.specs.Io.{ReadsAtMost};
 
 use std::io;
-use std::io::Read;
+
+// What does not fit is not read.
+const ROOM: usize = 65_536;
+
+const MOST_WEIGHTS: usize = 640;
+
+// Of a vector before its weights.
+const HEADER: usize = 6;
+
+// No total reaches this.
+const TOTAL_LIMIT: u32 = 4_294_967_295;
 
 // No sum of weights reaches this.
-const LIMIT: u64 = 4_611_686_018_427_387_904;
+const SUM_LIMIT: u64 = 4_611_686_018_427_387_904;
 
-// The sum of the weights, or the limit where they reach it.
-fn limited_sum(ws: &[u64]) -> u64
-    ensures { result < 2 ^ 62 → result ≡ sum ws.now }
+// None where it does not fit.
+fn checked_sum(ws: &[u64]) -> Option<u64>
+    ensures { IfSome result (λ s. s ≡ sum ws.now) }
 {
-    let mut s: u64 = 0;
-    let mut i = 0;
-    while i < ws.len() {
-        let w = ws[i];
-        if LIMIT - s <= w {
-            return LIMIT;
-        }
-        s += w;
-        i += 1;
+    let mut total: u64 = 0;
+    for w in ws {
+        total = total.checked_add(*w)?;
     }
-    s
+    Some(total)
 }
 
 // Whether the library takes this division.
-fn admitted(total: u64, ws: &[u64]) -> bool
+fn is_admitted(total: u32, ws: &[u64]) -> bool
     ensures { result ≡ true → (total < 2 ^ 32 - 1) × (sum ws.now < 2 ^ 62) × (sum ws.now ≡ 0 → total ≡ 0) }
 {
-    let sum = limited_sum(ws);
-    if 4_294_967_295 <= total {
+    let Some(sum) = checked_sum(ws) else {
         return false;
-    }
-    if LIMIT <= sum {
-        return false;
-    }
-    if total == 0 {
-        return true;
-    }
-    0 < sum
+    };
+    total < TOTAL_LIMIT && sum < SUM_LIMIT && (total == 0 || 0 < sum)
 }
 
-fn read_weights(vector: &[u8], ws: &mut [u64])
-    requires { length ws.old ≤ 640 }
+// The total of the first vector, and the bytes of its weights. None where it has none, too many or not all.
+fn first_vector(s: &[u8]) -> Option<(u32, &[u8])>
+    ensures { IfSome result (λ v. (length v.1.now ≤ 8 * MOST_WEIGHTS) × (length v.1.now % 8 ≡ 0) × (HEADER + length v.1.now ≤ length s.now)) }
 {
-    let mut i = 0;
-    while i < ws.len() {
-        ws[i] = bytes::le64(vector, 6 + 8 * i);
-        i += 1;
+    let (count, rest) = s.split_first_chunk()?;
+    let (total, rest) = rest.split_first_chunk()?;
+    let count = usize::from(u16::from_le_bytes(*count));
+    if count == 0 || MOST_WEIGHTS < count {
+        return None;
     }
+    let weights = rest.get(..8 * count)?;
+    Some((u32::from_le_bytes(*total), weights))
 }
 
-fn wide(x: u32) -> u64 {
-    x as u64
+fn read_weights(bytes: &[u8], ws: &mut [u64])
+    requires { length bytes.now ≡ 8 * length ws.old }
+{
+    let mut rest = bytes;
+    for w in ws.iter_mut() {
+        let (first, others) = rest.split_first_chunk().unwrap();
+        *w = u64::from_le_bytes(*first);
+        rest = others;
+    }
 }
 
 fn print_shares(rt: &impl Print, shares: &[u32]) -> io::Result<()> {
-    let mut i = 0;
-    while i < shares.len() {
-        text::item(rt, i, wide(shares[i]))?;
-        i += 1;
+    if let Some((first, rest)) = shares.split_first() {
+        console::number(rt, u64::from(*first))?;
+        for share in rest {
+            console::word(rt, u64::from(*share))?;
+        }
     }
-    text::newline(rt)
+    console::newline(rt)
 }
 
-// Divides the first vector and prints its shares, if the library takes it.
-fn divide_in(
-    rt: &impl Print,
-    vector: &[u8],
-    ws: &mut [u64],
-    scratch: &mut [u64],
-    out: &mut [u32],
-) -> io::Result<bool>
-    requires { (length ws.old ≤ 640) × (length scratch.old ≡ length ws.old) × (length out.old ≡ length ws.old) }
+// Divides the first vector of `s` and prints its shares. How many bytes it has, or none where it is bad.
+fn divide(rt: &impl Print, s: &[u8]) -> io::Result<Option<usize>>
+    ensures { IfOk result (λ v. IfSome v (λ size. (0 < size) × (size ≤ length s.now))) }
 {
-    let total = bytes::le32(vector, 2);
-    read_weights(vector, ws);
-    if !admitted(total, ws) {
-        return Ok(false);
+    let Some((total, weights)) = first_vector(s) else {
+        return Ok(None);
+    };
+    let count = weights.len() / 8;
+    let mut ws = [0u64; MOST_WEIGHTS];
+    let mut scratch = [0u64; MOST_WEIGHTS];
+    let mut out = [0u32; MOST_WEIGHTS];
+    let (ws, scratch, out) = (&mut ws[..count], &mut scratch[..count], &mut out[..count]);
+    read_weights(weights, ws);
+    if !is_admitted(total, ws) {
+        return Ok(None);
     }
-    apportion::apportion(total, ws, scratch, out);
+    apportion::apportion(u64::from(total), ws, scratch, out);
     print_shares(rt, out)?;
-    Ok(true)
-}
-
-// The same, with the memory that it takes.
-fn divide_counted(rt: &impl Print, vector: &[u8], count: usize) -> io::Result<bool>
-    requires { count ≤ 640 }
-{
-    let mut ws = [0u64; 640];
-    let mut scratch = [0u64; 640];
-    let mut out = [0u32; 640];
-    divide_in(
-        rt,
-        vector,
-        &mut ws[..count],
-        &mut scratch[..count],
-        &mut out[..count],
-    )
-}
-
-// Divides the first vector of `s`. How many bytes it has, 0 if it is bad.
-fn divide(rt: &impl Print, s: &[u8]) -> io::Result<usize>
-    ensures { IfOk result (λ size. size ≤ length s.now) }
-{
-    let count = bytes::le16(s, 0) as usize;
-    let size = 6 + 8 * count;
-    if count == 0 {
-        return Ok(0);
-    }
-    if 640 < count {
-        return Ok(0);
-    }
-    if s.len() < size {
-        return Ok(0);
-    }
-    if !divide_counted(rt, s, count)? {
-        return Ok(0);
-    }
-    Ok(size)
+    Ok(Some(HEADER + weights.len()))
 }
 
 // Divides the vectors in order, as far as the first bad one.
 fn divide_all(rt: &impl Print, s: &[u8]) -> io::Result<()> {
-    let mut at = 0;
-    while at < s.len() {
-        let size = divide(rt, &s[at..])?;
-        if size == 0 {
-            return text::bad_vector(rt);
-        }
-        at += size;
+    let mut rest = s;
+    while !rest.is_empty() {
+        let Some(size) = divide(rt, rest)? else {
+            return rt.print("bad vector\n");
+        };
+        rest = &rest[size..];
     }
     Ok(())
 }
 
-// Reads until the buffer is full or the input ends. How many bytes it put at the buffer's start.
-fn read_full(rt: &impl Input, buffer: &mut [u8]) -> io::Result<usize>
-    ensures { ReadsAtMost result buffer.new }
-{
-    let mut reader = rt.reader();
-    let mut done = 0;
-    while done < buffer.len() {
-        let n = reader.read(&mut buffer[done..])?;
-        if n == 0 {
-            break;
-        }
-        done += n;
-    }
-    Ok(done)
-}
-
-// What does not fit the buffer is not read.
 fn main(rt: HostRuntime) -> io::Result<()> {
-    let mut buffer = [0u8; 65536];
-    let n = read_full(&rt, &mut buffer)?;
-    divide_all(&rt, &buffer[..n])
+    console::with_input::<ROOM, _>(&rt, ROOM, |s| divide_all(&rt, s))
 }

@@ -6,7 +6,7 @@ use Prim.Native.Nat.{ℕ}
 use native.Mathlib.Omega.{arith}
 use Rattle.apportion.specs.Shares.{shares_by}
 use Rattle.sheet.specs.declared.refusal.Refusal.TheVariants.{BadArchive}
-use Rattle.sheet.specs.declared.refusal.Outcome.TheVariants.{Accepted, Refused}
+use Rattle.std.specs.Prelude.{Ok, Err}
 use Rattle.sheet.specs.Tests.{all, any}
 use Rattle.sheet.specs.Refusals.{first_refusal}
 use Rattle.sheet.specs.declared.rule_set.RuleSet.{RuleSet}
@@ -36,7 +36,7 @@ record Computed (rules : RuleSet) : Type 0 where
   inside : sheet_inside (record_a (archive_version rules)) ≡ case_a
   holds : HoldsItsSettlement rules (record_a (archive_version rules))
   damaged-head : RightHead rules (damaged (archive_version rules))
-  refuses : read_outcome (damaged (archive_version rules)) ≡ Refused BadArchive
+  refuses : read_outcome (damaged (archive_version rules)) ≡ Err BadArchive
 
 computed : (rules : RuleSet) → Computed rules
 unfolding month_a damaged statement_a record_a
@@ -73,7 +73,7 @@ module _ (rules : RuleSet) where
   exactly : AcceptedExactly rules written
   exactly = reader_accepts_exactly rules written c.head
 
-  accepts : read_outcome written ≡ Accepted
+  accepts : read_outcome written ≡ Ok tt
   accepts = exactly.if c.holds
 
   -- what it then says is held is the month of case A

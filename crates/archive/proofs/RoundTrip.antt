@@ -10,7 +10,7 @@ use lib.ListN.{length, take, drop, take-append-drop}
 use lib.Seq.{take_at, drop_at}
 use borrow.Author.Tests.{not-false}
 use Rattle.sheet.specs.declared.refusal.Refusal.{Refusal}
-use Rattle.sheet.specs.declared.refusal.Outcome.TheVariants.{Accepted}
+use Rattle.std.specs.Prelude.{Option, None, Some, Ok}
 use Rattle.sheet.specs.Refusals.{first_refusal}
 use Rattle.sheet.specs.declared.rule_set.RuleSet.{RuleSet}
 use Rattle.sheet.specs.RuleSets.{rule_sets, newest}
@@ -27,18 +27,16 @@ use Rattle.archive.specs.Record.{archive_head, archive_record}
 use Rattle.archive.specs.Writer.{write_answer, record_after}
 use Rattle.archive.specs.Reader.{body, sheet_length, head_of, body_rules, read_rules, read_outcome}
 use Rattle.archive.specs.Theorems.{RightHead, sheet_inside, HoldsItsSettlement, ReaderAcceptsExactly, OtherHeadsRefused, WrittenIsReadBack, WriterReadBack, WriterIsReadBack, OneRecordASheet}
-use Rattle.archive.specs.declared.head.Head.{Head}
-use Rattle.archive.specs.declared.head.Head.TheVariants.{Wrong, Right}
 use Rattle.archive.proofs.Bytes.{same_itself, same_equal, bytes-length}
 use Rattle.archive.proofs.Heads.{right_of, head-is, wrong_of}
-use Rattle.archive.proofs.Inside.{same-sheet, inside-checked}
+use Rattle.sheet.proofs.Inside.{same-sheet, inside-checked}
 
 -- ---- a sheet that settles, with its statement behind it
 module _ (rules : RuleSet) (sheet : List ℕ) (m : Month) (e : settled_sheet rules sheet ≡ settled m) where
   abbrev behind : List ℕ
   behind = in_bytes m.numbers
 
-  passed : (checked 32 sheet ≡ Accepted) × NoneHolds (month_rules (sheet_of sheet))
+  passed : (checked 32 sheet ≡ Ok tt) × NoneHolds (month_rules (sheet_of sheet))
   unfolding settle_rules checked
   passed =
       let both = none_of-both (sheet_rules 32 sheet) (month_rules (sheet_of sheet)) (none-holds _ (settled-month rules sheet m e).0) in
@@ -70,7 +68,7 @@ module _ (rules : RuleSet) (sheet : List ℕ) (m : Month) (e : settled_sheet rul
   unfolding body_rules
   body-passes = both-none (month_rules (sheet_of (sheet ++ behind))) _ (rw same passed.1) (rw same-statement, tt)
 
-  record_accepted : read_outcome (archive_record rules sheet m.numbers) ≡ Accepted
+  record_accepted : read_outcome (archive_record rules sheet m.numbers) ≡ Ok tt
   unfolding read_outcome read_rules archive_record
   record_accepted =
       rw (right_of rules (archive_head rules ++ (sheet ++ behind)) refl)
@@ -94,22 +92,22 @@ record Headed (r : List ℕ) : Type 0 where
   rules : RuleSet
   right : RightHead rules r
 
-headed : (r : List ℕ) → read_outcome r ≡ Accepted → Headed r
+headed : (r : List ℕ) → read_outcome r ≡ Ok tt → Headed r
 unfolding read_outcome read_rules first_refusal
 headed r e = go (head_of r) refl e
   where
-    go : (h : Head) → head_of r ≡ h → first_refusal (read_rules h r) ≡ Accepted → Headed r
-    go Wrong n e = absurd (let z : ◌≡◌ {A = ℕ} 0 1 = cc in omega arith)
-    go (Right rules) n e = record { rules = rules; right = head-is rules rule_sets (take 8 r) n }
+    go : (h : Option RuleSet) → head_of r ≡ h → first_refusal (read_rules h r) ≡ Ok tt → Headed r
+    go None n e = absurd (let z : ◌≡◌ {A = ℕ} 0 1 = cc in omega arith)
+    go (Some rules) n e = record { rules = rules; right = head-is rules rule_sets (take 8 r) n }
 
-module _ (rules : RuleSet) (r : List ℕ) (head : RightHead rules r) (e : read_outcome r ≡ Accepted) where
+module _ (rules : RuleSet) (r : List ℕ) (head : RightHead rules r) (e : read_outcome r ≡ Ok tt) where
   both_pass : NoneHolds (sheet_rules 64 (body r)) × NoneHolds (body_rules rules (body r))
   unfolding read_outcome read_rules
   both_pass =
-      let k = ap (λ (h : Head). first_refusal (read_rules h r)) (right_of rules r head) in
+      let k = ap (λ (h : Option RuleSet). first_refusal (read_rules h r)) (right_of rules r head) in
       none_of-both (sheet_rules 64 (body r)) (body_rules rules (body r)) (none-holds _ (sym k ∙ e))
 
-  body-checked : checked 64 (body r) ≡ Accepted
+  body-checked : checked 64 (body r) ≡ Ok tt
   unfolding checked
   body-checked = holds-none (sheet_rules 64 (body r)) both_pass.0
 
@@ -119,7 +117,7 @@ module _ (rules : RuleSet) (r : List ℕ) (head : RightHead rules r) (e : read_o
       let p = none_of-both (month_rules (sheet_of (body r))) _ both_pass.1 in
       (p.0, same_equal _ _ (not-false _ p.1.0))
 
-  unrefused : first_refusal (settle_rules (sheet_inside r)) ≡ Accepted
+  unrefused : first_refusal (settle_rules (sheet_inside r)) ≡ Ok tt
   unfolding settle_rules checked
   unrefused =
       holds-none _
@@ -135,14 +133,14 @@ module _ (rules : RuleSet) (r : List ℕ) (head : RightHead rules r) (e : read_o
     statement = body_pass.1 ∙ ap (λ (s : Sheet). in_bytes (statement_of rules s)) (same-sheet (body r) body-checked);
   }
 
-pub checked-body : (r : List ℕ) → read_outcome r ≡ Accepted → checked 64 (body r) ≡ Accepted
+pub checked-body : (r : List ℕ) → read_outcome r ≡ Ok tt → checked 64 (body r) ≡ Ok tt
 checked-body r e = let h = headed r e in body-checked h.rules r h.right e
 
 -- THE READER ACCEPTS A RECORD WITH THE RIGHT HEAD OF A VERSION EXACTLY WHEN ITS STATEMENT IS THE SETTLEMENT, BY ITS RULES, OF THE SHEET INSIDE
 pub reader_accepts_exactly : ReaderAcceptsExactly
 reader_accepts_exactly rules r head = record {
   only_if_lem = holds rules r head;
-  if = λ h. subst (λ (x : List ℕ). read_outcome x ≡ Accepted) (held rules r head h.month h.statement) (record_accepted rules (sheet_inside r) h.month h.settles);
+  if = λ h. subst (λ (x : List ℕ). read_outcome x ≡ Ok tt) (held rules r head h.month h.statement) (record_accepted rules (sheet_inside r) h.month h.settles);
 }
 
 -- ANY OTHER HEAD IS REFUSED
@@ -155,14 +153,14 @@ pub written-is_read-back : WrittenIsReadBack
 written-is_read-back rules sheet m e = record { accepted = record_accepted rules sheet m e; same-sheet = sheet-back rules sheet m e }
 
 -- AND SO IS WHAT THE WRITER WRITES
-taken : (sheet list : List ℕ) (m : Month) → settled_sheet newest sheet ≡ settled m → write_answer sheet list ≡ Accepted → record_after sheet list ≡ archive_record newest sheet m.numbers
+taken : (sheet list : List ℕ) (m : Month) → settled_sheet newest sheet ≡ settled m → write_answer sheet list ≡ Ok tt → record_after sheet list ≡ archive_record newest sheet m.numbers
 unfolding write_answer record_after
 taken sheet list m s e = elim (decided (eqb (length list) (56 + 64 * m.unit_count))) [
   | inl t ↦ rw (s, t)
   | inr t ↦ let k = rw (s, t) at e in absurd (let z : ◌≡◌ {A = ℕ} 0 1 = cc in omega arith)
 ]
 
-refused_none : (sheet list : List ℕ) (r : Refusal) → settled_sheet newest sheet ≡ refused r → write_answer sheet list ≡ Accepted → ⊥
+refused_none : (sheet list : List ℕ) (r : Refusal) → settled_sheet newest sheet ≡ refused r → write_answer sheet list ≡ Ok tt → ⊥
 unfolding write_answer
 refused_none sheet list r s e = let k = rw s at e in absurd (let z : ◌≡◌ {A = ℕ} 0 1 = cc in omega arith)
 

@@ -1,131 +1,105 @@
 // The reader: the check of a record, and the part of it that holds the sheet.
-ghost use Rattle.std.specs.Prelude.{◌≡◌, ◌++◌, ◌*◌, ◌≤◌, length};
-ghost use Rattle.sheet.specs.Layout.{in_bytes};
-ghost use Rattle.sheet.specs.declared.refusal.Outcome.TheVariants.{Accepted};
-ghost use Rattle.sheet.specs.Refusals.{first_refusal};
-ghost use Rattle.sheet.specs.Check.{checked, same_list, sheet_rules};
-ghost use Rattle.archive.specs.Reader.{body_rules, read_outcome, SheetPart};
-ghost use Rattle.archive.specs.Inner.Lent.{Counted, WithRoom};
+ghost use Rattle.std.specs.Prelude.{◌≡◌, ◌*◌, ◌≤◌, IfOk, length};
+ghost use Rattle.sheet.specs.Layout.{sheet_of, in_bytes};
+ghost use Rattle.sheet.specs.Refusals.{outcome_of, first_refusal};
+ghost use Rattle.sheet.specs.Check.{same_list};
+ghost use Rattle.archive.specs.Reader.{read_outcome, sheet_length, PartOf, SheetPart};
+ghost use Rattle.archive.specs.Inner.Settled.{statement_rules};
 
-use crate::head::{Head, head_of};
-use sheet::bytes::read32;
-use sheet::{Outcome, Refusal, RuleSet, header};
+use crate::head::head_of;
+use sheet::{Refusal, RuleSet, Sheet};
 
 // The bytes are the numbers, four bytes each.
 fn same_statement(bytes: &[u8], numbers: &[u32]) -> bool
-    requires { (length bytes.now ≡ 4 * length numbers.now) × (length numbers.now ≤ 1280) }
+    requires { length bytes.now ≡ 4 * length numbers.now }
     ensures { result ≡ same_list bytes.now (in_bytes numbers.now) }
 {
-    for i in 0..numbers.len() {
-        if read32(bytes, 4 * i) != numbers[i] {
+    for (four, number) in bytes.chunks_exact(4).zip(numbers) {
+        if four != number.to_le_bytes().as_slice() {
             return false;
         }
     }
     true
 }
 
-// 8 to 12 of the sheet at the front by way of a list of 8n numbers, then its statement behind it.
-fn check_in(rules: RuleSet, body: &[u8], numbers: &mut [u32]) -> Outcome
-    requires { WithRoom 64 body.now numbers.old }
-    ensures { result ≡ first_refusal (body_rules rules body.now) }
+// 8 to 12 of a sheet of no more than N / 8 units, then the statement that stands behind it.
+fn check_with_room<const N: usize>(
+    rules: RuleSet,
+    sheet: Sheet<'_>,
+    statement: &[u8],
+) -> Result<(), Refusal>
+    requires room { (8 * (sheet_of sheet.bytes.now).unit_count ≤ N) × (N ≤ 1280) }
+    requires statement { length statement.now ≡ 32 * (sheet_of sheet.bytes.now).unit_count }
+    ensures { result ≡ first_refusal (statement_rules rules (sheet_of sheet.entry.bytes.now) statement.now) }
 {
-    let end = 48 + 4 * numbers.len();
-    let outcome = settlement::settle_checked(rules, &body[..end], numbers);
-    let Outcome::Accepted = outcome else {
-        return outcome;
-    };
-    if !same_statement(&body[end..], numbers) {
-        return Outcome::Refused(Refusal::BadArchive);
+    let mut room = [0u32; N];
+    let numbers = &mut room[..8 * sheet.unit_count()];
+    settlement::settle_checked(rules, sheet, numbers)?;
+    if !same_statement(statement, numbers) {
+        return Err(Refusal::BadArchive);
     }
-    Outcome::Accepted
+    Ok(())
 }
 
-fn check_up_to_16(rules: RuleSet, body: &[u8], n: usize) -> Outcome
-    requires { Counted 64 body.now n × (n ≤ 16) }
-    ensures { result ≡ first_refusal (body_rules rules body.now) }
+// Few units need little room.
+fn check_statement(rules: RuleSet, sheet: Sheet<'_>, statement: &[u8]) -> Result<(), Refusal>
+    requires { length statement.now ≡ 32 * (sheet_of sheet.bytes.now).unit_count }
+    ensures { result ≡ first_refusal (statement_rules rules (sheet_of sheet.entry.bytes.now) statement.now) }
 {
-    let mut numbers = [0u32; 128];
-    check_in(rules, body, &mut numbers[..8 * n])
-}
-
-fn check_up_to_160(rules: RuleSet, body: &[u8], n: usize) -> Outcome
-    requires { Counted 64 body.now n × (n ≤ 160) }
-    ensures { result ≡ first_refusal (body_rules rules body.now) }
-{
-    let mut numbers = [0u32; 1280];
-    check_in(rules, body, &mut numbers[..8 * n])
-}
-
-// Past 1 to 7; few units need little room.
-fn check_statement(rules: RuleSet, body: &[u8]) -> Outcome
-    requires { checked 64 body.now ≡ Accepted }
-    ensures { result ≡ first_refusal (body_rules rules body.now) }
-{
-    let n = header::header_field(body, header::UNIT_COUNT) as usize;
-    if n <= 16 {
-        return check_up_to_16(rules, body, n);
+    if sheet.unit_count() <= 16 {
+        return check_with_room::<128>(rules, sheet, statement);
     }
-    check_up_to_160(rules, body, n)
+    check_with_room::<1280>(rules, sheet, statement)
 }
 
-// Past the head: 1 to 12, 14.
-fn check_body(rules: RuleSet, body: &[u8]) -> Outcome
-    ensures { result ≡ first_refusal (sheet_rules 64 body.now ++ body_rules rules body.now) }
+// Any bytes: 14, 1 to 12, 14, by the rules of the head's version; and the very part that holds the sheet.
+fn open<'a>(bytes: &'a [u8]) -> Result<&'a [u8], Refusal>
+    ensures answer { outcome_of result ≡ read_outcome bytes.now }
+    ensures part { IfOk result (λ part. PartOf part bytes.entry 8 (sheet_length bytes.now)) }
 {
-    let outcome = sheet::check_record_part(body);
-    let Outcome::Accepted = outcome else {
-        return outcome;
+    let Some(rules) = head_of(bytes) else {
+        return Err(Refusal::BadArchive);
     };
-    check_statement(rules, body)
+    let (sheet, statement) = Sheet::split_record(&bytes[8..])?;
+    check_statement(rules, sheet, statement)?;
+    Ok(&bytes[8..8 + sheet.bytes.len()])
 }
 
-// Any bytes: 14, 1 to 12, 14, by the rules of the head's version.
-pub fn check(bytes: &[u8]) -> Outcome
+// Any bytes: whether they are a record with the settlement of its sheet.
+pub fn check(bytes: &[u8]) -> Result<(), Refusal>
     ensures { result ≡ read_outcome bytes.now }
 {
-    if bytes.len() < 8 {
-        return Outcome::Refused(Refusal::BadArchive);
-    }
-    match head_of(bytes) {
-        Head::Wrong => Outcome::Refused(Refusal::BadArchive),
-        Head::Right(rules) => check_body(rules, &bytes[8..]),
-    }
+    open(bytes)?;
+    Ok(())
 }
 
-// The reader's answer: number and place by the outcome, and the sheet as the very part of the record that holds it.
+// The reader's answer, and the sheet as the very part of the record that holds it; on a refusal the empty part at the record's start.
 #[derive(Clone, Copy)]
 pub struct Reading<'a> {
-    pub outcome: Outcome,
+    pub outcome: Result<(), Refusal>,
     pub sheet: &'a [u8],
 }
 
-// The sheet's part of a record by the check's outcome; on a refusal the empty part at the record's start.
-fn sheet_part<'a>(bytes: &'a [u8], outcome: Outcome) -> &'a [u8]
-    requires { outcome ≡ read_outcome bytes.now }
-    ensures { SheetPart result bytes.entry }
-{
-    let Outcome::Accepted = outcome else {
-        return &bytes[0..0];
-    };
-    let n = header::header_field(&bytes[8..], header::UNIT_COUNT) as usize;
-    let end = 56 + 32 * n;
-    &bytes[8..end]
-}
-
-// Any bytes: the sheet's part alone.
-pub fn sheet_of<'a>(bytes: &'a [u8]) -> &'a [u8]
-    ensures { SheetPart result bytes.entry }
-{
-    let outcome = check(bytes);
-    sheet_part(bytes, outcome)
-}
-
-// Any bytes: the check's outcome and its part, at one settling.
+// Any bytes: the check's outcome and the part, at one settling.
 pub fn read<'a>(bytes: &'a [u8]) -> Reading<'a>
     ensures outcome_value { result.outcome ≡ read_outcome bytes.now }
     ensures sheet_part { SheetPart result.sheet bytes.entry }
 {
-    let outcome = check(bytes);
-    let sheet = sheet_part(bytes, outcome);
-    Reading { outcome, sheet }
+    match open(bytes) {
+        Ok(sheet) => Reading {
+            outcome: Ok(()),
+            sheet,
+        },
+        Err(refusal) => Reading {
+            outcome: Err(refusal),
+            sheet: &bytes[0..0],
+        },
+    }
+}
+
+// Any bytes: the part alone.
+pub fn sheet_of<'a>(bytes: &'a [u8]) -> &'a [u8]
+    ensures { SheetPart result bytes.entry }
+{
+    read(bytes).sheet
 }

@@ -1,101 +1,60 @@
 // The writer.
-ghost use Rattle.std.specs.Prelude.{◌≡◌, ◌++◌, ◌+◌, ◌*◌, ◌≤◌, ◌<◌, length, take};
+ghost use Rattle.std.specs.Prelude.{◌≡◌, ◌+◌, ◌*◌, ◌≤◌, length};
 ghost use Rattle.sheet.specs.RuleSets.{newest};
-ghost use Rattle.sheet.specs.Layout.{bytes32, in_bytes};
+ghost use Rattle.sheet.specs.Layout.{sheet_of, in_bytes};
 ghost use Rattle.archive.specs.Record.{archive_record};
 ghost use Rattle.archive.specs.Writer.{write_answer, record_after};
-ghost use Rattle.archive.specs.Inner.Lent.{Counted, WithRoom, Writes};
 
 use crate::head::NEWEST_HEAD;
-use sheet::{Outcome, Refusal, header};
-
-// A list of bytes over another of the same length.
-fn put_bytes(from: &[u8], to: &mut [u8])
-    requires { length to.old ≡ length from.now }
-    ensures { to.new ≡ from.now }
-{
-    for i in 0..to.len() {
-        to[i] = from[i];
-    }
-}
-
-fn put_four(x: u32, to: &mut [u8], at: usize)
-    requires { (at + 4 ≤ length to.old) × (at < 6000) }
-    ensures { take (at + 4) to.new ≡ take at to.old ++ bytes32 x }
-{
-    to[at] = (x % 256) as u8;
-    to[at + 1] = (x / 256 % 256) as u8;
-    to[at + 2] = (x / 65536 % 256) as u8;
-    to[at + 3] = (x / 16777216 % 256) as u8;
-}
+use sheet::{Refusal, Sheet};
 
 // Numbers of four bytes each.
 fn put_numbers(numbers: &[u32], to: &mut [u8])
-    requires { (length to.old ≡ 4 * length numbers.now) × (length numbers.now ≤ 1280) }
+    requires { length to.old ≡ 4 * length numbers.now }
     ensures { to.new ≡ in_bytes numbers.now }
 {
-    for i in 0..numbers.len() {
-        put_four(numbers[i], to, 4 * i);
+    for (i, number) in numbers.iter().enumerate() {
+        to[4 * i..4 * i + 4].copy_from_slice(&number.to_le_bytes());
     }
 }
 
 // Head, sheet and statement into a list of their length.
 fn put_record(sheet: &[u8], numbers: &[u32], out: &mut [u8])
-    requires sheet_len_bound { (length sheet.now ≤ 5168) × (length numbers.now ≤ 1280) }
-    requires out_len { length out.old ≡ 8 + length sheet.now + 4 * length numbers.now }
+    requires { length out.old ≡ 8 + length sheet.now + 4 * length numbers.now }
     ensures { out.new ≡ archive_record newest sheet.now numbers.now }
 {
-    let end = 8 + sheet.len();
-    put_bytes(&NEWEST_HEAD, &mut out[..8]);
-    put_bytes(sheet, &mut out[8..end]);
-    put_numbers(numbers, &mut out[end..]);
+    let (head, body) = out.split_at_mut(8);
+    let (part, statement) = body.split_at_mut(sheet.len());
+    head.copy_from_slice(&NEWEST_HEAD);
+    part.copy_from_slice(sheet);
+    put_numbers(numbers, statement);
 }
 
-// 8 to 12 by way of a list of 8n numbers, then 13, then the record.
-fn write_in(sheet: &[u8], numbers: &mut [u32], out: &mut [u8]) -> Outcome
-    requires { WithRoom 32 sheet.now numbers.old }
-    ensures { Writes result sheet.now out.old out.new }
+// 8 to 12 of a sheet of no more than N / 8 units, then 13, then the record.
+fn write_with_room<const N: usize>(sheet: Sheet<'_>, out: &mut [u8]) -> Result<(), Refusal>
+    requires { (8 * (sheet_of sheet.bytes.now).unit_count ≤ N) × (N ≤ 1280) }
+    ensures value { result ≡ write_answer sheet.entry.bytes.now out.old }
+    ensures out_after { out.new ≡ record_after sheet.entry.bytes.now out.old }
 {
-    let outcome = settlement::settle_checked(sheet::NEWEST, sheet, numbers);
-    let Outcome::Accepted = outcome else {
-        return outcome;
-    };
-    if out.len() != 8 + sheet.len() + 4 * numbers.len() {
-        return Outcome::Refused(Refusal::BufferLength);
+    let mut room = [0u32; N];
+    let numbers = &mut room[..8 * sheet.unit_count()];
+    settlement::settle_checked(sheet::NEWEST, sheet, numbers)?;
+    if out.len() != 8 + sheet.bytes.len() + 4 * numbers.len() {
+        return Err(Refusal::BufferLength);
     }
-    put_record(sheet, numbers, out);
-    Outcome::Accepted
-}
-
-fn write_up_to_16(sheet: &[u8], n: usize, out: &mut [u8]) -> Outcome
-    requires { Counted 32 sheet.now n × (n ≤ 16) }
-    ensures { Writes result sheet.now out.old out.new }
-{
-    let mut numbers = [0u32; 128];
-    write_in(sheet, &mut numbers[..8 * n], out)
-}
-
-fn write_up_to_160(sheet: &[u8], n: usize, out: &mut [u8]) -> Outcome
-    requires { Counted 32 sheet.now n × (n ≤ 160) }
-    ensures { Writes result sheet.now out.old out.new }
-{
-    let mut numbers = [0u32; 1280];
-    write_in(sheet, &mut numbers[..8 * n], out)
+    put_record(sheet.bytes, numbers, out);
+    Ok(())
 }
 
 // The record of a sheet, by the newest rules, into a list of 56 + 64n bytes: 1 to 12, then 13. A refused call leaves the list as it was.
 // Few units need little room.
-pub fn write(sheet: &[u8], out: &mut [u8]) -> Outcome
+pub fn write(sheet: &[u8], out: &mut [u8]) -> Result<(), Refusal>
     ensures value { result ≡ write_answer sheet.now out.old }
     ensures out_after { out.new ≡ record_after sheet.now out.old }
 {
-    let outcome = sheet::check_sheet(sheet);
-    let Outcome::Accepted = outcome else {
-        return outcome;
-    };
-    let n = header::header_field(sheet, header::UNIT_COUNT) as usize;
-    if n <= 16 {
-        return write_up_to_16(sheet, n, out);
+    let sheet = Sheet::check(sheet)?;
+    if sheet.unit_count() <= 16 {
+        return write_with_room::<128>(sheet, out);
     }
-    write_up_to_160(sheet, n, out)
+    write_with_room::<1280>(sheet, out)
 }

@@ -3,8 +3,8 @@ use mathlib.Core.Path.{◌≡◌, refl, sym, ap, ◌∙◌}
 use mathlib.Core.List.{List, [], ◌∷◌, map}
 use Prim.Native.Nat.{ℕ, zero, suc, ◌+◌, ◌*◌, ◌/◌, ◌%◌, ◌<◌}
 use native.Mathlib.Omega.{arith}
-use lib.ListN.{length, get_or, take, drop, get_or-map}
-use lib.Seq.{ext_get_or, get_or-take}
+use lib.ListN.{length, get_or, drop, get_or-map}
+use lib.Seq.{ext_get_or}
 use Rattle.sheet.specs.Tests.{Each}
 use Rattle.sheet.specs.declared.rule_set.RuleSet.{RuleSet}
 use Rattle.sheet.specs.Layout.{Sheet}
@@ -47,9 +47,9 @@ by_unit-below b (suc n) x y z p q r =
     (p 0, (q 0, (r 0, by_unit-below b n (drop 1 x) (drop 1 y) (drop 1 z) (tail x p) (tail y q) (tail z r))))
 
 -- ---- written one after the other
--- by the first n numbers of a list
-pub put_front : (at : ℕ → ℕ) (n : ℕ) (xs ys before after : List ℕ) → take n xs ≡ ys → Put at n (λ i. get_or xs i 0) before after → Put at n (λ i. get_or ys i 0) before after
-put_front at n xs ys before after e w = record { put = λ k h. w.put k h ∙ sym (get_or-take n xs k 0 h) ∙ ap (λ (l : List ℕ). get_or l k 0) e; kept = w.kept }
+-- by all numbers of a list
+pub put_whole : (at : ℕ → ℕ) {xs ys : List ℕ} (n : ℕ) → xs ≡ ys → (before after : List ℕ) → Put at (length xs) (λ i. get_or xs i 0) before after → length xs ≡ n → Put at n (λ i. get_or ys i 0) before after
+put_whole at n e before after w l = rw (← e, ← l) w
 
 module _ (n : ℕ) (x y z before first second third : List ℕ)
     (p : Put (column_place 0) n (λ i. get_or x i 0) before first)

@@ -1,6 +1,7 @@
 -- The weights of a call: as they are read, how many, and their sum. Assumes nothing.
-use mathlib.Core.Path.{◌≡◌, sym}
+use mathlib.Core.Path.{◌≡◌, refl, sym}
 use mathlib.Core.Logic.{inl, inr}
+use mathlib.Core.Bool.{false}
 use mathlib.Core.List.{List, [], ◌∷◌, map, map-append}
 use Prim.Native.Nat.{ℕ, ◌+◌, ◌≤◌, ◌<◌}
 use native.Mathlib.Omega.{arith}
@@ -9,6 +10,8 @@ use borrow.Author.Tests.{ne_eqb}
 use lib.Dec.{eqb}
 use lib.ListN.{length, take, set, length-map}
 use lib.Seq.{take-suc-set}
+use Rattle.std.specs.List as std
+use Rattle.std.proofs.lemmas.List.Recursion.{is_sum_by}
 use Rattle.apportion.specs.Shares.{sum}
 use Rattle.sheet.specs.Layout.{UnitRow, Sheet, sheet_of}
 use Rattle.sheet.specs.Inner.Fields.{unit_of, row_field}
@@ -19,8 +22,10 @@ use Rattle.month.proofs.Lists.{decided}
 use Rattle.month.proofs.Accepted.{checked-area}
 use Rattle.month.proofs.Bounds.{sum_bounds}
 use Rattle.charges.specs.Charges.{charge_weights}
-use Rattle.charges.specs.Answer.{no_load}
-use Rattle.charges.specs.Inner.Columns.{field_by}
+use Rattle.charges.specs.Answer.{other_model, no_load}
+use Rattle.charges.specs.declared.models.ChargeModel.{ChargeModel}
+use Rattle.charges.specs.declared.models.ChargeModel.TheVariants.{ByLoad, ByArea}
+use Rattle.charges.specs.Inner.Models.{model_code, field_by}
 
 -- one unit more
 pub next_weight : (f : UnitRow → ℕ) (s out : List ℕ) (i v : ℕ) → i < (sheet_of s).unit_count → i < length out → v ≡ f (unit_of (sheet_of s) i)
@@ -30,12 +35,22 @@ next_weight f s out i v h l e inv =
     let u = unit_of (sheet_of s) i in
     rw (units-next s i h, map-append f (take i us) (u ∷ []), add-one, take-suc-set out i v l, inv, e)
 
-module _ (model : ℕ) (s : Sheet) where
-  -- by a row's field
-  pub weights_are : map (λ u. row_field u (field_by model)) s.units ≡ charge_weights model s
-  unfolding charge_weights
-  weights_are = elim (decided (eqb model 1)) [ inl e ↦ rw e | inr e ↦ rw e ]
+-- 1 and 2 stand for a model
+pub known_model : (m : ChargeModel) {model : ℕ} → model_code m ≡ model → other_model model ≡ false
+known_model ByLoad e = rw (← e) refl
+known_model ByArea e = rw (← e) refl
 
+-- the sum is std's
+pub sum_is : (xs : List ℕ) → std.sum xs ≡ sum xs
+sum_is xs = sym (is_sum_by sum (λ x. x) refl (λ _ _. refl) xs)
+
+-- by a row's field
+pub weights_are : (model : ChargeModel) (s : Sheet) → map (λ u. row_field u (field_by model)) s.units ≡ charge_weights (model_code model) s
+unfolding charge_weights
+weights_are ByLoad s = refl
+weights_are ByArea s = refl
+
+module _ (model : ℕ) (s : Sheet) where
   pub weights-count : length (charge_weights model s) ≡ length s.units
   unfolding charge_weights
   weights-count = elim (decided (eqb model 1)) [ inl e ↦ rw e (length-map s.units (λ u. u.heat_load)) | inr e ↦ rw e (length-map s.units (λ u. u.heated_area)) ]

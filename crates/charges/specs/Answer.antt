@@ -2,9 +2,8 @@
 use Rattle.std.specs.Prelude.{Bool, not, ◌&&◌, ◌||◌, List, [], ◌∷◌, ◌++◌, map, ℕ, ◌*◌, ltb, eqb, length}
 use Rattle.sheet.specs.Tests.{any}
 use Rattle.sheet.specs.declared.refusal.Refusal.TheVariants.{HeaderField, ZeroDivisor, BufferLength}
-use Rattle.sheet.specs.declared.refusal.Outcome.{Outcome}
+use Rattle.sheet.specs.Refusals.{Outcome, Rule, ◌⇒◌, first_refusal, afterwards}
 use Rattle.sheet.specs.declared.rule_set.RuleSet.{RuleSet}
-use Rattle.sheet.specs.Refusals.{Rule, ◌⇒◌, first_refusal, afterwards}
 use Rattle.sheet.specs.Layout.{Sheet, sheet_of}
 use Rattle.sheet.specs.Check.{sheet_rules}
 use Rattle.month.specs.Weights.{sum_of}

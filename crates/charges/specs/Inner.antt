@@ -1,2 +1,3 @@
 -- What inner functions promise each other. Nothing in here need be believed.
+pub mod Models
 pub mod Columns

@@ -1,8 +1,7 @@
 -- The laws of the fixed charges: what holds of every call that is accepted, by all rules (`accepted-laws`, proofs/Laws.antt).
-use Rattle.std.specs.Prelude.{◌≡◌, List, ℕ, ◌+◌, ◌*◌, ◌<◌, length, get_or}
+use Rattle.std.specs.Prelude.{◌≡◌, List, ℕ, ◌+◌, ◌*◌, ◌<◌, length, get_or, Ok}
 use Rattle.apportion.specs.Shares.{sum}
 use Rattle.sheet.specs.Tests.{Each}
-use Rattle.sheet.specs.declared.refusal.Outcome.TheVariants.{Accepted}
 use Rattle.sheet.specs.declared.rule_set.RuleSet.{RuleSet}
 use Rattle.sheet.specs.Layout.{Sheet, sheet_of}
 use Rattle.month.specs.Laws.{sum_to}
@@ -35,5 +34,5 @@ pub record ChargeLaws (rules : RuleSet) (model : ℕ) (a : Amounts) (s : Sheet) 
 abbrev pub AcceptedLaws : Type 0
 AcceptedLaws =
     (rules : RuleSet) (bytes : List ℕ) (model : ℕ) (a : Amounts) (list : List ℕ)
-    → charge_answer bytes model a list ≡ Accepted
+    → charge_answer bytes model a list ≡ Ok tt
     → ChargeLaws rules model a (sheet_of bytes) (charges_after rules bytes model a list)

@@ -1,6 +1,9 @@
 // The amounts of a call.
 ghost use Rattle.std.specs.Prelude.{◌≡◌};
-ghost use Rattle.charges.specs.Answer.{over_limit, other_model};
+ghost use Rattle.charges.specs.Answer.{over_limit};
+
+// In cents.
+const LIMIT: u32 = 100_000_000;
 
 // In cents: connection power, the buyer's fee, the supplier's fee.
 #[derive(Clone, Copy)]
@@ -14,21 +17,7 @@ pub struct Amounts {
 pub(crate) fn over_limit(a: Amounts) -> bool
     ensures { result ≡ over_limit a }
 {
-    if 100_000_000 < a.power {
-        return true;
-    }
-    if 100_000_000 < a.buyer {
-        return true;
-    }
-    100_000_000 < a.supplier
-}
-
-// 4: a model other than 1S and 2S.
-pub(crate) fn other_model(model: u32) -> bool
-    ensures { result ≡ other_model model }
-{
-    if model == 1 {
-        return false;
-    }
-    model != 2
+    [a.power, a.buyer, a.supplier]
+        .iter()
+        .any(|&amount| LIMIT < amount)
 }

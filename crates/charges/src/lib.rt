@@ -4,7 +4,7 @@
 mod amounts;
 mod charging;
 mod columns;
-mod weighing;
+mod models;
 
 pub use amounts::Amounts;
 pub use charging::fixed_charges;

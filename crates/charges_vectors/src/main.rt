@@ -6,7 +6,6 @@
 ghost use Rattle.std.specs.Prelude.{◌≤◌, length};
 
 use charges::Amounts;
-use sheet::Outcome;
 use std::io;
 
 // No stored call is longer.
@@ -18,80 +17,66 @@ const MOST_NUMBERS: usize = 481;
 // 120,000 bytes hold no more calls.
 const MOST_CALLS: usize = 60_000;
 
-fn print_answer(rt: &impl Print, outcome: Outcome, list: &[u32]) -> io::Result<()> {
-    console::answer(rt, outcome)?;
-    let Outcome::Accepted = outcome else {
-        return console::word(rt, console::digest(list));
-    };
-    console::print_settled(rt, list)
+// The bytes of a call before its sheet.
+const HEADER: usize = 18;
+
+fn next32(rt: &impl Input) -> io::Result<Option<u32>> {
+    Ok(console::next(rt)?.map(u32::from_le_bytes))
 }
 
-// Reads a sheet as long as this buffer.
-fn call(
-    rt: &(impl Input + Print),
-    buffer: &mut [u8],
+fn next_amounts(rt: &impl Input) -> io::Result<Option<Amounts>> {
+    let power = next32(rt)?;
+    let buyer = next32(rt)?;
+    let supplier = next32(rt)?;
+    let (Some(power), Some(buyer), Some(supplier)) = (power, buyer, supplier) else {
+        return Ok(None);
+    };
+    Ok(Some(Amounts {
+        power,
+        buyer,
+        supplier,
+    }))
+}
+
+fn answer(
+    rt: &impl Print,
+    sheet: &[u8],
     model: u32,
     amounts: Amounts,
     list: &mut [u32],
 ) -> io::Result<()>
-    requires { length list.old ≤ 481 }
+    requires { length list.old ≤ MOST_NUMBERS }
 {
-    let n = console::read_full(rt, buffer)?;
     console::count_up(list);
-    let outcome = charges::fixed_charges(&buffer[..n], model, amounts, list);
-    print_answer(rt, outcome, list)?;
+    let outcome = charges::fixed_charges(sheet, model, amounts, list);
+    console::answer(rt, outcome)?;
+    match outcome {
+        Ok(()) => console::print_settled(rt, list)?,
+        Err(_) => console::word(rt, console::digest(list))?,
+    }
     console::newline(rt)
 }
 
-fn call_with(
-    rt: &(impl Input + Print),
-    length: usize,
-    model: u32,
-    amounts: Amounts,
-    numbers: usize,
-) -> io::Result<()>
-    requires { (length ≤ 5300) × (numbers ≤ 481) }
+// Passes over a call that ends before its sheet, has no room for it or has too long a list.
+fn answer_next(rt: &(impl Input + Print), length: usize) -> io::Result<()>
+    requires { length ≤ LONGEST }
 {
-    let mut buffer = [0u8; LONGEST];
-    let mut list = [0u32; MOST_NUMBERS];
-    call(
-        rt,
-        &mut buffer[..length],
-        model,
-        amounts,
-        &mut list[..numbers],
-    )
-}
-
-fn call_next(rt: &(impl Input + Print), length: usize) -> io::Result<()>
-    requires { length ≤ 5300 }
-{
-    let model = console::next32(rt)?;
-    let power = console::next32(rt)?;
-    let buyer = console::next32(rt)?;
-    let supplier = console::next32(rt)?;
-    let numbers = console::next16(rt)? as usize;
-    if length < 18 {
+    let model = next32(rt)?;
+    let amounts = next_amounts(rt)?;
+    let numbers = console::next_up_to(rt, MOST_NUMBERS)?;
+    let (Some(model), Some(amounts), Some(numbers)) = (model, amounts, numbers) else {
         return Ok(());
-    }
-    if MOST_NUMBERS < numbers {
-        return Ok(());
-    }
-    let amounts = Amounts {
-        power,
-        buyer,
-        supplier,
     };
-    call_with(rt, length - 18, model, amounts, numbers)
+    if length < HEADER {
+        return Ok(());
+    }
+    let mut list = [0u32; MOST_NUMBERS];
+    let list = &mut list[..numbers];
+    console::with_input::<LONGEST, _>(rt, length - HEADER, |sheet| {
+        answer(rt, sheet, model, amounts, list)
+    })
 }
 
 fn main(rt: HostRuntime) -> io::Result<()> {
-    for _ in 0..MOST_CALLS {
-        let length = console::next16(&rt)? as usize;
-        if LONGEST < length {
-            return Ok(());
-        }
-        call_next(&rt, length)?;
-    }
-    Ok(())
+    console::each_length(&rt, MOST_CALLS, LONGEST, |length| answer_next(&rt, length))
 }

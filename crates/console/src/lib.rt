@@ -1,10 +1,10 @@
-// Numbers and answers on standard output, numbers from standard input: what the programs share.
+// What the programs share: answers on standard output, bytes and numbers from standard input.
 #![tactic(auto)]
 
-ghost use Rattle.std.specs.Prelude.{◌<◌, length};
+ghost use Rattle.std.specs.Prelude.{◌≡◌, ℕ, ◌+◌, ◌^◌, ◌≤◌, ◌<◌, IfOk, IfSome, EachIndex, length, slice_get};
 ghost use Rattle.std.specs.Io.{ReadsAtMost};
 
-use sheet::Outcome;
+use sheet::Refusal;
 use std::io;
 use std::io::Read;
 
@@ -22,17 +22,14 @@ pub fn newline(rt: &impl Print) -> io::Result<()> {
     rt.print("\n")
 }
 
-fn pair(rt: &impl Print, x: u32, y: u32) -> io::Result<()> {
-    number(rt, x as u64)?;
-    word(rt, y as u64)
-}
-
 // A refusal's number and place, `0 0` where the call is accepted.
-pub fn answer(rt: &impl Print, outcome: Outcome) -> io::Result<()> {
-    match outcome {
-        Outcome::Accepted => pair(rt, 0, 0),
-        Outcome::Refused(r) => pair(rt, sheet::number(r), sheet::place(r)),
-    }
+pub fn answer<T: Copy>(rt: &impl Print, outcome: Result<T, Refusal>) -> io::Result<()> {
+    let (x, y) = match outcome {
+        Ok(_) => (0, 0),
+        Err(refusal) => (refusal.number(), refusal.place()),
+    };
+    number(rt, u64::from(x))?;
+    word(rt, u64::from(y))
 }
 
 // Reads until the buffer is full or the input ends. How many bytes it put at the buffer's start.
@@ -51,90 +48,105 @@ pub fn read_full(rt: &impl Input, buffer: &mut [u8]) -> io::Result<usize>
     Ok(done)
 }
 
-fn wide_byte(x: u8) -> u32
-    ensures { result < 256 }
+// The next N bytes, or none where the input ends before the last of them.
+pub fn next<const N: usize>(rt: &impl Input) -> io::Result<Option<[u8; N]>> {
+    let mut bytes = [0u8; N];
+    if read_full(rt, &mut bytes)? < N {
+        return Ok(None);
+    }
+    Ok(Some(bytes))
+}
+
+// The next number of 16 bits, or none where the input ends before it or it is above `most`.
+pub fn next_up_to(rt: &impl Input, most: usize) -> io::Result<Option<usize>>
+    ensures { IfOk result (λ x. IfSome x (λ n. n ≤ most)) }
 {
-    x as u32
+    let x = next(rt)?.map(u16::from_le_bytes).map(usize::from);
+    Ok(x.filter(|n| *n <= most))
 }
 
-// The next number of 8 bits, or 256 at the end of the input.
-pub fn next8(rt: &impl Input) -> io::Result<u32> {
-    let mut bytes = [0u8; 1];
-    if read_full(rt, &mut bytes)? < 1 {
-        return Ok(256);
+// Calls with each length, 16 bits of the input, as far as the input's end or a length above `longest`.
+pub fn each_length<F: Fn(usize) -> io::Result<()>>(
+    rt: &impl Input,
+    most: usize,
+    longest: usize,
+    call: F,
+) -> io::Result<()>
+    requires { (size : ℕ) → size ≤ longest → F.pre call size }
+{
+    for _ in 0..most {
+        let Some(size) = next_up_to(rt, longest)? else {
+            return Ok(());
+        };
+        call(size)?;
     }
-    Ok(wide_byte(bytes[0]))
+    Ok(())
 }
 
-// The next number of 16 bits, or 65,536 at the end of the input.
-pub fn next16(rt: &impl Input) -> io::Result<u32> {
-    let mut bytes = [0u8; 2];
-    if read_full(rt, &mut bytes)? < 2 {
-        return Ok(65536);
-    }
-    Ok(wide_byte(bytes[0]) + 256 * wide_byte(bytes[1]))
+// Calls with the next bytes of the input, so many or as many as it still has.
+pub fn with_input<const LONGEST: usize, F: FnOnce(&[u8]) -> io::Result<()>>(
+    rt: &impl Input,
+    size: usize,
+    call: F,
+) -> io::Result<()>
+    requires fits { LONGEST < 2 ^ 63 }
+    requires room { size ≤ LONGEST }
+    requires callable { (s : _) → length s.now ≤ size → F.pre call s }
+{
+    let mut buffer = [0u8; LONGEST];
+    let n = read_full(rt, &mut buffer[..size])?;
+    call(&buffer[..n])
 }
 
-// The next number of 32 bits, or 0 at the end of the input.
-pub fn next32(rt: &impl Input) -> io::Result<u32> {
-    let mut bytes = [0u8; 4];
-    if read_full(rt, &mut bytes)? < 4 {
-        return Ok(0);
-    }
-    Ok(
-        wide_byte(bytes[0])
-            + 256 * wide_byte(bytes[1])
-            + 65536 * wide_byte(bytes[2])
-            + 16777216 * wide_byte(bytes[3]),
+// Calls with each input that stands behind its length.
+pub fn each_input<const LONGEST: usize, F: Fn(&[u8]) -> io::Result<()>>(
+    rt: &impl Input,
+    most: usize,
+    call: F,
+) -> io::Result<()>
+    requires fits { LONGEST < 2 ^ 63 }
+    requires callable { (s : _) → length s.now ≤ LONGEST → F.pre call s }
+{
+    each_length(
+        rt,
+        most,
+        LONGEST,
+        |size| -> io::Result<()>
+            requires fits { LONGEST < 2 ^ 63 }
+            requires room { size ≤ LONGEST }
+            requires callable { (s : _) → length s.now ≤ LONGEST → F.pre call s }
+        { with_input::<LONGEST, _>(rt, size, &call) },
     )
 }
 
-pub fn wide(x: u32) -> u64
-    ensures { result < 4294967296 }
-{
-    x as u64
-}
-
-// The next number of 64 bits; 0 in place of a half that the input no longer has.
-pub fn next64(rt: &impl Input) -> io::Result<u64> {
-    let low = wide(next32(rt)?);
-    Ok(low + 4294967296 * wide(next32(rt)?))
-}
-
 // A list as one number.
-pub fn digest(list: &[u32]) -> u64 {
+pub fn digest<T: Copy + Into<u64>>(list: &[T]) -> u64 {
     let mut sum: u64 = 0;
-    let mut i = 0;
-    while i < list.len() {
-        sum = (31 * sum + wide(list[i])) % 1_000_000_007;
-        i += 1;
+    for x in list {
+        sum = (31 * sum + (*x).into() % 1_000_000_007) % 1_000_000_007;
     }
     sum
 }
 
 // Writes 1, 2, 3 and so on.
 pub fn count_up(list: &mut [u32])
-    requires { length list.old < 4294967296 }
+    requires { length list.old < 2 ^ 32 }
+    ensures { EachIndex list.new (λ i. slice_get list.new i ≡ Some (i + 1)) }
 {
-    let mut x: u32 = 0;
-    for i in 0..list.len() {
-        x += 1;
-        list[i] = x;
+    let mut number: u32 = 0;
+    for x in list.iter_mut() {
+        number += 1;
+        *x = number;
     }
-}
-
-fn print_numbers(rt: &impl Print, list: &[u32]) -> io::Result<()> {
-    for i in 0..list.len() {
-        word(rt, wide(list[i]))?;
-    }
-    Ok(())
 }
 
 // The list of an accepted call: number by number up to 64, else as one number.
 pub fn print_settled(rt: &impl Print, list: &[u32]) -> io::Result<()> {
     if 64 < list.len() {
-        word(rt, digest(list))
-    } else {
-        print_numbers(rt, list)
+        return word(rt, digest(list));
     }
+    for x in list {
+        word(rt, u64::from(*x))?;
+    }
+    Ok(())
 }

@@ -8,10 +8,9 @@ use borrow.Author.Tests.{ltb-false}
 use lib.Dec.{ltb}
 use lib.ListN.{length, get_or, length-map}
 use Rattle.sheet.specs.Tests.{Each}
-use Rattle.sheet.specs.declared.refusal.Outcome.{Outcome}
-use Rattle.sheet.specs.declared.refusal.Outcome.TheVariants.{Accepted, Refused}
+use Rattle.sheet.specs.Refusals.{Outcome, first_refusal}
+use Rattle.std.specs.Prelude.{Ok, Err}
 use Rattle.sheet.specs.declared.rule_set.RuleSet.{RuleSet}
-use Rattle.sheet.specs.Refusals.{first_refusal}
 use Rattle.sheet.specs.Layout.{Sheet, sheet_of}
 use Rattle.sheet.proofs.Passed.{none-holds, AllFalse, none_of}
 use Rattle.month.specs.Steps.{whole_wh, heat_parts}
@@ -25,19 +24,18 @@ use Rattle.group.specs.Inner.Accepted.{CheckedGroup, AcceptedGroup}
 
 -- ---- stages: accepted is what no rule of any stage meets
 abbrev pub Passed : Stage → Type 0
-Passed stage = first_refusal stage.rules ≡ Accepted
+Passed stage = first_refusal stage.rules ≡ Ok tt
 
-pub all-passed : (stages : List Stage) → (first_in stages).outcome ≡ Accepted → Each Passed stages
+pub all-passed : (stages : List Stage) → first_in stages ≡ Ok tt → Each Passed stages
 unfolding first_in
 all-passed [] e = tt
 all-passed (stage ∷ stages) e = go (first_refusal stage.rules) refl e (all-passed stages)
   where
-    go : (o : Outcome) → first_refusal stage.rules ≡ o → (refusal_or stage.building o (first_in stages)).outcome ≡ Accepted
-        → ((first_in stages).outcome ≡ Accepted → Each Passed stages) → Passed stage × Each Passed stages
-    go Accepted p h next = (p, next h)
-    go (Refused r) p h next = absurd (let z : ◌≡◌ {A = ℕ} 0 1 = cc in omega arith)
+    go : (o : Outcome) → first_refusal stage.rules ≡ o → refusal_or stage.building o (first_in stages) ≡ Ok tt → (first_in stages ≡ Ok tt → Each Passed stages) → Passed stage × Each Passed stages
+    go (Ok tt) p h next = (p, next h)
+    go (Err r) p h next = absurd (let z : ◌≡◌ {A = ℕ} 0 1 = cc in omega arith)
 
-each-accepted : (i : ℕ) (parts : List (List ℕ)) → Each Passed (own_stages i parts) → Each AcceptedSheet (map sheet_of parts)
+pub each-accepted : (i : ℕ) (parts : List (List ℕ)) → Each Passed (own_stages i parts) → Each AcceptedSheet (map sheet_of parts)
 unfolding own_stages
 each-accepted i [] h = tt
 each-accepted i (part ∷ parts) h = (accepted part h.0, each-accepted (i + 1) parts h.1)
@@ -61,7 +59,7 @@ covers rules g c e = record {
 abbrev pub group_in : List ℕ → List Building → ℕ → Group
 group_in buffer bs reading = group_of (parts_of buffer bs) reading
 
-module _ (rules : RuleSet) (buffer : List ℕ) (bs : List Building) (reading : ℕ) (list : List ℕ) (e : (group_answer rules buffer bs reading list).outcome ≡ Accepted) where
+module _ (rules : RuleSet) (buffer : List ℕ) (bs : List Building) (reading : ℕ) (list : List ℕ) (e : group_answer rules buffer bs reading list ≡ Ok tt) where
   pub accepted-group : AcceptedGroup rules (group_in buffer bs reading)
   unfolding group_answer group_stages bad_group group_of
   accepted-group =

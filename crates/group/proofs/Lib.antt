@@ -8,7 +8,6 @@ pub mod Divisions
 pub mod Near
 pub mod Statements
 pub mod Laws
-mod Gathered
 pub mod Parts
 mod Surveys
 pub mod Passing

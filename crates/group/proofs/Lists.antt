@@ -1,16 +1,58 @@
 -- Lists side by side, and lists joined. Assumes nothing.
-use mathlib.Core.Path.{◌≡◌, refl, ap, ◌∙◌}
-use mathlib.Core.List.{List, [], ◌∷◌, ◌++◌, zip_with}
+use mathlib.Core.Path.{◌≡◌, refl, sym, ap, ◌∙◌}
+use mathlib.Core.Bool.{Bool, not, ◌||◌}
+use mathlib.Core.List.{List, [], ◌∷◌, ◌++◌, map, zip_with}
 use Prim.Native.Nat.{ℕ, zero, suc, ◌+◌, ◌*◌, ◌≤◌, ◌<◌}
 use native.Mathlib.Omega.{arith}
 use lib.ListN.{length, get_or, take, length-append, get_or-append}
 use lib.Seq.{get_or-append-add}
+use borrow.Author.Tests.{eq-eqb}
+use lib.Dec.{eqb}
+use lib.IntN.{ℤ}
+use mir.Syntax.{w64}
+use mir.Val.{SFits, of_z, to_z}
+use Rattle.std.specs.Prelude.{Result, Ok, Err}
+use Rattle.std.specs.Result.{IsErrAnd}
+use Rattle.std.proofs.lemmas.Int.{to_z-of_z}
+use Rattle.std.specs.List as std
+use Rattle.std.proofs.lemmas.List.Recursion.{is_sum_by}
 use Rattle.apportion.specs.Shares.{sum}
+use Rattle.sheet.specs.Tests.{any}
 use Rattle.month.specs.Fraction.{Fraction}
 use Rattle.month.specs.Laws.{sum_to}
 use Rattle.month.proofs.Nearness.{NearAll}
 use Rattle.month.proofs.Lists.{sum_append, near_tail, near_cons, sum_to_cong, sum-by-fours}
 use Rattle.group.specs.Group.{joined}
+use Rattle.group.specs.Answer.{differs}
+
+-- ---- a sum, and any of the pairs of two lists, as std has them
+pub sum_is : (xs : List ℕ) → std.sum xs ≡ sum xs
+sum_is xs = sym (is_sum_by sum (λ x. x) refl (λ _ _. refl) xs)
+
+pub any_is : (test : ℕ → ℕ → Bool) (xs ys : List ℕ) → std.list_any (λ p. test p.0 p.1) (std.zip xs ys) ≡ any (zip_with test xs ys)
+unfolding any zip_with
+any_is test [] ys = refl
+any_is test (x ∷ xs) [] = refl
+any_is test (x ∷ xs) (y ∷ ys) = ap (λ (t : Bool). test x y || t) (any_is test xs ys)
+
+pub any_of : {A : Type 0} (test : A → Bool) (xs : List A) → std.list_any test xs ≡ any (map test xs)
+unfolding any
+any_of test [] = refl
+any_of test (x ∷ xs) = ap (λ (t : Bool). test x || t) (any_of test xs)
+
+pub differs_is : (xs : List ℕ) → 0 < length xs → std.list_any (λ x. not (eqb x (get_or xs 0 0))) xs ≡ differs xs
+unfolding any
+differs_is [] h = absurd (omega arith)
+differs_is (x ∷ xs) h = rw (eq-eqb x x refl) (any_of (λ y. not (eqb y x)) xs)
+
+-- ---- a signed number, as a call is given it
+pub same_z : {z : ℤ} → SFits w64 z → to_z w64 (of_z w64 z) ≡ z
+same_z {z} fits = grind (arith, to_z-of_z)
+
+-- ---- a `?` hands on the call's own refusal
+pub residual_is : {A E : Type 0} (answer : Result A E) (e : E) → IsErrAnd answer (λ (q : E). q ≡ e) → answer ≡ Err e
+residual_is (Ok x) e h = absurd h
+residual_is (Err q) e h = ap Err h
 
 -- ---- as many items in both lists, and those at the same place have to do with each other
 module _ {A B : Type 0} where

@@ -12,10 +12,9 @@ use lib.ListN.{length}
 use Rattle.apportion.specs.Shares.{sum}
 use Rattle.sheet.specs.Tests.{any}
 use Rattle.sheet.specs.declared.refusal.Refusal.{Refusal}
-use Rattle.sheet.specs.declared.refusal.Outcome.{Outcome}
-use Rattle.sheet.specs.declared.refusal.Outcome.TheVariants.{Accepted, Refused}
+use Rattle.sheet.specs.Refusals.{Outcome, first_refusal}
+use Rattle.std.specs.Prelude.{Ok, Err}
 use Rattle.sheet.specs.declared.rule_set.RuleSet.{RuleSet}
-use Rattle.sheet.specs.Refusals.{first_refusal}
 use Rattle.sheet.specs.Layout.{Sheet, sheet_of}
 use Rattle.month.specs.Steps.{whole_wh, heat_parts}
 use Rattle.month.specs.Month.{bill_cents, statement_of, month_of, settle_rules, settled_sheet}
@@ -25,7 +24,7 @@ use Rattle.month.proofs.Accepted.{accepted}
 use Rattle.settlement.specs.Settle.{settle_answer, statement_after}
 use Rattle.group.specs.declared.buildings.Building.{Building}
 use Rattle.group.specs.Group.{Group, difference, joined, difference_shares, common_heats, shared_price, shared_bill, bill_parts, common_heat_below_zero, group_units, group_statement}
-use Rattle.group.specs.Answer.{part_of, group_of, bad_group, first_in, own_stages, unlike, group_stages, group_answer, group_after}
+use Rattle.group.specs.Answer.{part_of, group_of, bad_group, refusal_or, first_in, own_stages, unlike, group_stages, group_answer, group_after}
 use Rattle.group.specs.Laws.{OneBuilding}
 use Rattle.group.specs.Inner.Accepted.{CheckedGroup, AcceptedGroup}
 use Rattle.group.specs.Inner.Figures.{statements_of}
@@ -100,21 +99,21 @@ module _ (rules : RuleSet) (buffer : List ℕ) (b : Building) (list : List ℕ) 
     not-bad = rw (le-ltb 4000000000 s.shared_meter le, le-ltb (length buffer) (b.offset + b.length) inside)
 
     abbrev Same : Type 0
-    Same = (group_answer rules buffer (b ∷ []) s.shared_meter list ≡ record { outcome = settle_answer rules part list; building = 0 })
+    Same = (group_answer rules buffer (b ∷ []) s.shared_meter list ≡ refusal_or 0 (settle_answer rules part list) (Ok tt))
         × (group_after rules buffer (b ∷ []) s.shared_meter list ≡ statement_after rules part list)
 
-    refused-alone : (r : Refusal) → first_refusal (settle_rules part) ≡ Refused r → Same
+    refused-alone : (r : Refusal) → first_refusal (settle_rules part) ≡ Err r → Same
     unfolding group_after group_answer group_stages first_in own_stages first_refusal settle_answer statement_after settled_sheet
     refused-alone r e = rw (not-bad, e) (refl, refl)
 
-    settled-alone : first_refusal (settle_rules part) ≡ Accepted → (t : Bool) → eqb (length list) (8 * s.unit_count) ≡ t → Same
+    settled-alone : first_refusal (settle_rules part) ≡ Ok tt → (t : Bool) → eqb (length list) (8 * s.unit_count) ≡ t → Same
     unfolding group_after group_answer group_stages first_in own_stages first_refusal settle_answer statement_after settled_sheet month_of group_of unlike any group_units
     settled-alone e true f = rw (not-bad, e, add-zero, f, never_below rules s) (refl, statement-is rules s (accepted part e))
     settled-alone e false f = rw (not-bad, e, add-zero, f) (refl, refl)
 
     same : (o : Outcome) → first_refusal (settle_rules part) ≡ o → Same
-    same Accepted e = settled-alone e (eqb (length list) (8 * s.unit_count)) refl
-    same (Refused r) e = refused-alone r e
+    same (Ok tt) e = settled-alone e (eqb (length list) (8 * s.unit_count)) refl
+    same (Err r) e = refused-alone r e
 
 pub one-building : OneBuilding
 one-building rules buffer b list inside le = same rules buffer b list inside le (first_refusal (settle_rules (part_of buffer b))) refl

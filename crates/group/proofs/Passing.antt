@@ -1,43 +1,60 @@
 -- Buildings that pass 1 to 12, as code meets them: by their places, and as a group. Assumes nothing.
-use mathlib.Core.Path.{◌≡◌, ap, ◌∙◌}
-use mathlib.Core.List.{List, map}
+use mathlib.Core.Path.{◌≡◌, refl, sym, ap, ◌∙◌}
+use mathlib.Core.Bool.{false}
+use mathlib.Core.List.{List, [], ◌∷◌, map}
 use Prim.Native.Nat.{ℕ, zero, suc, ◌+◌, ◌≤◌, ◌<◌}
 use native.Mathlib.Omega.{arith}
+use lib.ListN.{length, get_or}
+use Rattle.std.specs.Prelude.{Ok, Err, IsOk}
+use Rattle.apportion.specs.Shares.{sum}
 use Rattle.sheet.specs.Tests.{Each}
-use Rattle.sheet.specs.declared.refusal.Outcome.TheVariants.{Accepted}
 use Rattle.sheet.specs.Refusals.{first_refusal}
-use Rattle.sheet.specs.Layout.{sheet_of}
-use Rattle.sheet.specs.Inner.Fits.{Fits}
-use Rattle.sheet.proofs.Fits.{fits}
+use Rattle.sheet.specs.Check.{checked}
 use Rattle.month.specs.Month.{settle_rules}
-use Rattle.month.specs.Inner.Accepted.{AcceptedSheet}
-use Rattle.month.proofs.Accepted.{accepted}
 use Rattle.settlement.proofs.Charging.{both-accepted}
-use Rattle.group.specs.declared.buildings.Spans.{Spans}
-use Rattle.group.specs.Answer.{group_of}
-use Rattle.group.specs.Inner.Spans.{span_part, parts_from, parts_in, Passed}
+use Rattle.group.specs.declared.buildings.Building.{Building}
+use Rattle.group.specs.Group.{group_units}
+use Rattle.group.specs.Answer.{GroupAnswer, part_of, parts_of, bad_group, first_in, own_stages}
+use Rattle.group.specs.Inner.Parts.{building_at}
 use Rattle.group.specs.Inner.Accepted.{CheckedGroup}
-use Rattle.group.proofs.Parts.{sheet-count}
+use Rattle.group.proofs.Parts.{parts_length, part_at, sheets, sheet-count, placed}
+use Rattle.group.proofs.Bounds.{units_le}
+use Rattle.group.proofs.Answers.{Passed, all-passed, each-accepted}
 
-module _ (buffer : List ℕ) (spans : Spans) where
-  each_from : (i k : ℕ) → ((j : ℕ) → j < k → first_refusal (settle_rules (span_part buffer spans (i + j))) ≡ Accepted) → Each AcceptedSheet (map sheet_of (parts_from buffer spans i k))
-  unfolding parts_from
-  each_from i zero h = tt
-  each_from i (suc k) h = (
-    accepted (span_part buffer spans i) (ap (λ (m : ℕ). first_refusal (settle_rules (span_part buffer spans m))) {y = i + 0} (omega arith) ∙ h 0 (omega arith)),
-    each_from (i + 1) k (λ j l. ap (λ (m : ℕ). first_refusal (settle_rules (span_part buffer spans m))) {y = i + suc j} (omega arith) ∙ h (suc j) (omega arith)),
-  )
+accepted : (a : GroupAnswer) → IsOk a → a ≡ Ok tt
+accepted (Ok tt) h = refl
+accepted (Err e) h = absurd (let z : ◌≡◌ {A = ℕ} 0 1 = cc in omega arith)
 
-  module _ (p : Passed buffer spans) where
-    pub checked-group : (reading : ℕ) → reading ≤ 4000000000 → CheckedGroup (group_of (parts_in buffer spans) reading)
-    unfolding group_of
-    checked-group reading h = record {
-      each = each_from 0 spans.count (λ j l. ap (λ (m : ℕ). first_refusal (settle_rules (span_part buffer spans m))) {y = j} (omega arith) ∙ p.accepted j l);
-      some = omega (arith, sheet-count buffer spans, p.in_buffer.some);
-      count = omega (arith, sheet-count buffer spans, p.in_buffer.few);
-      reading = h;
-    }
+each_passes : (i : ℕ) (parts : List (List ℕ)) → Each Passed (own_stages i parts) → (k : ℕ) → k < length parts → first_refusal (settle_rules (get_or parts k [])) ≡ Ok tt
+unfolding own_stages
+each_passes i [] p k h = absurd (omega arith)
+each_passes i (part ∷ parts) p zero h = p.0
+each_passes i (part ∷ parts) p (suc k) h = each_passes (i + 1) parts p.1 k (omega arith)
 
-    -- building i's sheet passes 1 to 7
-    pub part-fits : (i : ℕ) → i < spans.count → Fits 32 (span_part buffer spans i)
-    part-fits i h = fits 32 _ (both-accepted (span_part buffer spans i) (p.accepted i h)).0
+module _ (buffer : List ℕ) (bs : List Building) (passed : IsOk (first_in (own_stages 0 (parts_of buffer bs)))) where
+  each : Each Passed (own_stages 0 (parts_of buffer bs))
+  each = all-passed _ (accepted _ passed)
+
+  pub passes : (i : ℕ) → i < length bs → first_refusal (settle_rules (part_of buffer (building_at bs i))) ≡ Ok tt
+  passes i h = ap (λ (part : List ℕ). first_refusal (settle_rules part)) (sym (part_at buffer bs i h)) ∙ each_passes 0 (parts_of buffer bs) each i (omega (arith, parts_length buffer bs))
+
+  pub sheet_passes : (i : ℕ) → i < length bs → checked 32 (part_of buffer (building_at bs i)) ≡ Ok tt
+  sheet_passes i h = (both-accepted _ (passes i h)).0
+
+  pub checked-group : (reading : ℕ) → bad_group buffer bs reading ≡ false → CheckedGroup (record { buildings = sheets buffer bs; shared_reading = reading })
+  checked-group reading good =
+      let p = placed buffer bs reading good in
+      record {
+        each = each-accepted 0 (parts_of buffer bs) each;
+        some = omega (arith, p.some, sheet-count buffer bs);
+        count = omega (arith, p.few, sheet-count buffer bs);
+        reading = p.reading_le;
+      }
+
+  -- at most 1,920 units
+  pub units_few : (reading : ℕ) → bad_group buffer bs reading ≡ false → sum (map (λ s. s.unit_count) (sheets buffer bs)) ≤ 1920
+  unfolding group_units
+  units_few reading good = units_le _ (checked-group reading good)
+
+  pub sheet_passed : (i : ℕ) → i < length bs → {part : List ℕ} → part ≡ part_of buffer (building_at bs i) → IsOk (checked 32 part)
+  sheet_passed i h e = rw (e, sheet_passes i h) refl

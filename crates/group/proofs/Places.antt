@@ -8,32 +8,30 @@ use native.Mathlib.Omega.{arith}
 use borrow.Author.Tests.{ltb-false}
 use lib.ListN.{length, length-map}
 use Rattle.sheet.specs.Tests.{Each}
-use Rattle.sheet.specs.declared.refusal.Outcome.{Outcome}
-use Rattle.sheet.specs.declared.refusal.Outcome.TheVariants.{Accepted, Refused}
+use Rattle.sheet.specs.Refusals.{Outcome, first_refusal, place_of}
+use Rattle.std.specs.Prelude.{Ok, Err, IfErr}
 use Rattle.sheet.specs.declared.rule_set.RuleSet.{RuleSet}
-use Rattle.sheet.specs.Refusals.{first_refusal, place_of}
 use Rattle.sheet.specs.Inner.Places.{PlaceBelow}
 use Rattle.sheet.proofs.Passed.{none_of}
 use Rattle.sheet.proofs.Places.{each_first}
 use Rattle.month.proofs.Lists.{decided, each_append}
 use Rattle.month.proofs.Places.{settle-place}
 use Rattle.group.specs.declared.buildings.Building.{Building}
-use Rattle.group.specs.declared.answer.GroupAnswer.{GroupAnswer}
-use Rattle.group.specs.Answer.{part_of, parts_of, bad_group, Stage, refusal_or, first_in, own_stages, group_stages, group_answer}
+use Rattle.group.specs.Answer.{GroupAnswer, part_of, parts_of, bad_group, Stage, refusal_or, first_in, own_stages, group_stages, group_answer}
 
-abbrev Bounded : GroupAnswer → Type 0
-Bounded a = PlaceBelow 160 a.outcome × (a.building < 12)
+abbrev pub Bounded : GroupAnswer → Type 0
+Bounded a = IfErr a (λ e. (place_of e.refusal < 160) × (e.building < 12))
 
 abbrev BoundedStage : Stage → Type 0
 BoundedStage stage = PlaceBelow 160 (first_refusal stage.rules) × (stage.building < 12)
 
 refusal_or_lem : (i : ℕ) (o : Outcome) (next : GroupAnswer) → PlaceBelow 160 o → i < 12 → Bounded next → Bounded (refusal_or i o next)
-refusal_or_lem i Accepted next h l k = k
-refusal_or_lem i (Refused r) next h l k = (h, l)
+refusal_or_lem i (Ok tt) next h l k = k
+refusal_or_lem i (Err r) next h l k = (h, l)
 
 first_in_lem : (stages : List Stage) → Each BoundedStage stages → Bounded (first_in stages)
 unfolding first_in
-first_in_lem [] h = (tt, omega arith)
+first_in_lem [] h = tt
 first_in_lem (stage ∷ stages) h = refusal_or_lem stage.building (first_refusal stage.rules) (first_in stages) h.0.0 h.0.1 (first_in_lem stages h.1)
 
 own : (i : ℕ) (parts : List (List ℕ)) → i + length parts ≤ 12 → Each BoundedStage (own_stages i parts)
@@ -56,5 +54,5 @@ module _ (rules : RuleSet) (buffer : List ℕ) (bs : List Building) (reading : �
         each_append BoundedStage (own_stages 0 parts) _ (own 0 parts (omega (arith, length-map bs (part_of buffer)))) ((each_first (λ r. place_of r < 160) _ (omega arith, (omega arith, (omega arith, tt))), omega arith), tt),
       )
 
-  pub answer_bounds : PlaceBelow 160 (group_answer rules buffer bs reading list).outcome × ((group_answer rules buffer bs reading list).building < 12)
+  pub answer_bounds : Bounded (group_answer rules buffer bs reading list)
   answer_bounds = elim (decided (bad_group buffer bs reading)) [ inl e ↦ bad e | inr e ↦ not-bad e ]

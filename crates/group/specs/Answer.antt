@@ -1,16 +1,14 @@
 -- The answer of the group call, and the list afterwards (2026-04, "Errors").
-use Rattle.std.specs.Prelude.{Bool, false, not, ◌||◌, List, [], ◌∷◌, ◌++◌, map, ℕ, ◌+◌, ◌*◌, ltb, eqb, length, take, drop}
+use Rattle.std.specs.Prelude.{Bool, false, not, ◌||◌, List, [], ◌∷◌, ◌++◌, map, ℕ, ◌+◌, ◌*◌, ltb, eqb, length, take, drop, Result, Ok, Err}
 use Rattle.sheet.specs.Tests.{any}
 use Rattle.sheet.specs.declared.refusal.Refusal.{Refusal}
 use Rattle.sheet.specs.declared.refusal.Refusal.TheVariants.{BufferLength, NegativeCommonHeat, BadGroup}
-use Rattle.sheet.specs.declared.refusal.Outcome.{Outcome}
-use Rattle.sheet.specs.declared.refusal.Outcome.TheVariants.{Accepted, Refused}
+use Rattle.sheet.specs.Refusals.{Outcome, Rule, ◌⇒◌, first_refusal, place_of, afterwards}
 use Rattle.sheet.specs.declared.rule_set.RuleSet.{RuleSet}
-use Rattle.sheet.specs.Refusals.{Rule, ◌⇒◌, first_refusal, place_of, afterwards}
 use Rattle.sheet.specs.Layout.{Sheet, sheet_of}
 use Rattle.month.specs.Month.{settle_rules}
 use Rattle.group.specs.declared.buildings.Building.{Building}
-use Rattle.group.specs.declared.answer.GroupAnswer.{GroupAnswer}
+use Rattle.group.specs.declared.answer.GroupRefusal.{GroupRefusal}
 use Rattle.group.specs.Group.{Group, group_units, common_heat_below_zero, group_statement}
 
 -- ---- the buildings' sheets as parts of one buffer
@@ -45,14 +43,29 @@ of_building i rules = record { building = i; rules = rules }
 abbrev pub of_group : List Rule → Stage
 of_group rules = of_building 0 rules
 
--- an answer: the outcome, and the building whose own sheet is refused, else 0
+-- What a group call answers: `Ok` when it is accepted, else the refusal with the building whose own sheet is refused, else 0.
+abbrev pub GroupAnswer : Type 0
+GroupAnswer = Result (Unit {0}) GroupRefusal
+
+abbrev pub refused_in : ℕ → Refusal → GroupRefusal
+refused_in i r = record { refusal = r; building = i }
+
 abbrev pub refusal_or : ℕ → Outcome → GroupAnswer → GroupAnswer
-refusal_or i Accepted next = next
-refusal_or i (Refused r) next = record { outcome = Refused r; building = i }
+refusal_or i (Ok tt) next = next
+refusal_or i (Err r) next = Err (refused_in i r)
+
+-- an answer without the value that it may bring, and without the building
+abbrev pub answer_of : {A : Type 0} → Result A GroupRefusal → GroupAnswer
+answer_of (Ok x) = Ok tt
+answer_of (Err e) = Err e
+
+abbrev pub outcome_in : GroupAnswer → Outcome
+outcome_in (Ok tt) = Ok tt
+outcome_in (Err e) = Err e.refusal
 
 -- the first rule that holds decides
 unfoldable pub first_in : List Stage → GroupAnswer
-first_in [] = record { outcome = Accepted; building = 0 }
+first_in [] = Ok tt
 first_in (stage ∷ stages) = refusal_or stage.building (first_refusal stage.rules) (first_in stages)
 
 -- ---- each building's own refusal 1 to 12, in list order; i counts the buildings
@@ -87,9 +100,9 @@ unfoldable pub group_answer : RuleSet → List ℕ → List Building → ℕ →
 group_answer rules buffer bs reading list = first_in (group_stages rules buffer bs reading list)
 
 -- a refusal's place is raised by 160 × the building's
-abbrev pub place_in : GroupAnswer → Refusal → ℕ
-place_in a r = place_of r + 160 * a.building
+abbrev pub place_in : GroupRefusal → ℕ
+place_in e = place_of e.refusal + 160 * e.building
 
 -- ---- the list afterwards: the statements; refused, it keeps its contents
 unfoldable pub group_after : RuleSet → List ℕ → List Building → ℕ → List ℕ → List ℕ
-group_after rules buffer bs reading list = afterwards (group_answer rules buffer bs reading list).outcome list (group_statement rules (group_of (parts_of buffer bs) reading))
+group_after rules buffer bs reading list = afterwards (outcome_in (group_answer rules buffer bs reading list)) list (group_statement rules (group_of (parts_of buffer bs) reading))

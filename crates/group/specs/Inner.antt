@@ -1,4 +1,4 @@
 -- What inner functions promise each other. Nothing in here need be believed.
-pub mod Spans
+pub mod Parts
 pub mod Figures
 pub mod Accepted

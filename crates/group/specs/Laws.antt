@@ -1,11 +1,10 @@
 -- The laws of a group: what holds of every group that is accepted, by all rules (`group_laws`, proofs/Laws.antt); which divisions a group makes, by all rules
 -- (`no_other_group_divisions`, proofs/Divisions.antt); and that one building with its own M as shared reading gives what `settle` gives (`one-building`,
 -- proofs/OneBuilding.antt).
-use Rattle.std.specs.Prelude.{Bool, ◌&&◌, ◌≡◌, ℕ, ◌+◌, ◌*◌, ◌≤◌, ◌<◌, ltb, nat_abs, length, get_or, take}
+use Rattle.std.specs.Prelude.{Bool, ◌&&◌, ◌≡◌, ℕ, ◌+◌, ◌*◌, ◌≤◌, ◌<◌, ltb, nat_abs, length, get_or, take, Ok}
 use mathlib.Core.List.{List, [], ◌∷◌, map, zip_with}
 use Rattle.apportion.specs.Shares.{sum}
 use Rattle.sheet.specs.Tests.{any, Each}
-use Rattle.sheet.specs.declared.refusal.Outcome.TheVariants.{Accepted}
 use Rattle.sheet.specs.declared.rule_set.RuleSet.{RuleSet}
 use Rattle.sheet.specs.Layout.{sheet_of}
 use Rattle.month.specs.Fraction.{◌over◌, Near}
@@ -15,7 +14,7 @@ use Rattle.month.specs.Laws.{Division, ◌by◌, divisions_with, Divisible, Does
 use Rattle.settlement.specs.Settle.{settle_answer, statement_after}
 use Rattle.group.specs.declared.buildings.Building.{Building}
 use Rattle.group.specs.Group.{Group, difference, is_negative, joined, adjusted, difference_shares, common_heats, building_energies, group_energies, shared_bill, adjusted_readings, bill_parts, group_costs, common_heat_below_zero, group_units, group_statement}
-use Rattle.group.specs.Answer.{part_of, parts_of, group_of, group_answer, group_after}
+use Rattle.group.specs.Answer.{part_of, parts_of, group_of, refusal_or, group_answer, group_after}
 
 -- ---- the divisions of a group: the difference's, the shared bill's, and those of each building's steps
 unfoldable pub group_divisions : RuleSet → Group → List Division
@@ -73,7 +72,7 @@ pub record GroupLaws (rules : RuleSet) (g : Group) (numbers : List ℕ) : Type 0
 abbrev pub AcceptedLaws : Type 0
 AcceptedLaws =
     (rules : RuleSet) (buffer : List ℕ) (bs : List Building) (reading : ℕ) (list : List ℕ)
-    → (group_answer rules buffer bs reading list).outcome ≡ Accepted
+    → group_answer rules buffer bs reading list ≡ Ok tt
     → GroupLaws rules (group_of (parts_of buffer bs) reading) (group_after rules buffer bs reading list)
 
 -- ---- one building whose shared reading is its M: the answer and the list are those of `settle`
@@ -83,4 +82,4 @@ OneBuilding =
     → let part = part_of buffer b in
     let reading = (sheet_of part).shared_meter in
     b.offset + b.length ≤ length buffer → reading ≤ 4000000000
-    → (group_answer rules buffer (b ∷ []) reading list ≡ record { outcome = settle_answer rules part list; building = 0 }) × (group_after rules buffer (b ∷ []) reading list ≡ statement_after rules part list)
+    → (group_answer rules buffer (b ∷ []) reading list ≡ refusal_or 0 (settle_answer rules part list) (Ok tt)) × (group_after rules buffer (b ∷ []) reading list ≡ statement_after rules part list)

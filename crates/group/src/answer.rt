@@ -1,9 +1,23 @@
-// The answer of a group call.
-use sheet::Outcome;
+// Why a group is refused.
+ghost use Rattle.std.specs.Prelude.{◌≡◌};
 
-// The outcome, and the place from 0 of the building whose own sheet is refused, else 0.
+use sheet::Refusal;
+
+// The refusal, and the place from 0 of the building whose own sheet is refused, else 0.
 #[derive(Clone, Copy)]
-pub struct GroupAnswer {
-    pub outcome: Outcome,
+pub struct GroupRefusal {
+    pub refusal: Refusal,
     pub building: u32,
+}
+
+// The group's own.
+impl From<Refusal> for GroupRefusal {
+    ghost from_gives = { λ r e. e ≡ record { refusal = r; building = 0 } };
+
+    fn from(refusal: Refusal) -> GroupRefusal {
+        GroupRefusal {
+            refusal,
+            building: 0,
+        }
+    }
 }

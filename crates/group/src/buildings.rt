@@ -1,6 +1,13 @@
-// The buildings of a group (2026-04). The list itself is read here alone; the rest goes by plain numbers.
-ghost use Rattle.std.specs.Prelude.{◌≡◌, ◌<◌, min, length};
-ghost use Rattle.group.specs.Inner.Spans.{building_at, no_spans, with_building, SpansOf};
+// The buildings of a group (2026-04), and the group whose buildings have their sheets in one buffer.
+ghost use Rattle.std.specs.Prelude.{◌≡◌, false, IsOk};
+ghost use Rattle.group.specs.Answer.{parts_of, bad_group, own_stages, first_in};
+
+use sheet::{Refusal, Sheet};
+
+const MOST_BUILDINGS: usize = 12;
+
+// In Wh.
+const MOST_READING: u64 = 4_000_000_000;
 
 // A building: where its sheet lies in the buffer.
 #[repr(C)]
@@ -10,63 +17,95 @@ pub struct Building {
     pub length: u64,
 }
 
-// The buildings as plain numbers: how many there are, and the first twelve of them.
+// Buildings that 22 lets pass at first: each sheet lies inside the buffer.
 #[derive(Clone, Copy)]
-pub struct Spans {
-    pub count: usize,
-    pub offsets: [u64; 12],
-    pub lengths: [u64; 12],
+pub(crate) struct Group<'a> {
+    pub sheets: &'a [u8],
+    pub buildings: &'a [Building],
+    pub reading: u64,
+    pub ghost good: { bad_group sheets.now buildings.now reading ≡ false },
 }
 
-fn building_at(buildings: &[Building], i: usize) -> Building
-    requires { i < length buildings.now }
-    ensures { result ≡ building_at buildings.now i }
-{
-    buildings[i]
+// Buildings of which none is refused by its own 1 to 12.
+#[derive(Clone, Copy)]
+pub(crate) struct PassedGroup<'a> {
+    pub group: Group<'a>,
+    pub ghost passed: { IsOk (first_in (own_stages 0 (parts_of group.sheets.now group.buildings.now))) },
 }
 
-// None of them yet.
-fn no_spans(count: usize) -> Spans
-    ensures { result ≡ no_spans count }
-{
-    Spans {
-        count,
-        offsets: [0u64; 12],
-        lengths: [0u64; 12],
+impl Building {
+    ghost use Rattle.std.specs.Prelude.{◌+◌, ltb};
+
+    // offset + length is past the size; added without wrapping.
+    fn leaves(self, size: u64) -> bool
+        ensures { result ≡ ltb size (self.offset + self.length) }
+    {
+        size < self.offset || size - self.offset < self.length
     }
 }
 
-// How many are gathered.
-fn shown(count: usize) -> usize
-    ensures { result ≡ min count 12 }
+// 22, before everything else.
+fn bad_group(sheets: &[u8], buildings: &[Building], reading: u64) -> bool
+    ensures { result ≡ bad_group sheets.now buildings.now reading }
 {
-    if count < 12 {
-        return count;
+    if buildings.is_empty() | (MOST_BUILDINGS < buildings.len()) | (MOST_READING < reading) {
+        return true;
     }
-    12
+    let size = sheets.len() as u64;
+    buildings.iter().any(|&building| building.leaves(size))
 }
 
-fn with_building(spans: Spans, i: usize, b: Building) -> Spans
-    requires { i < 12 }
-    ensures { result ≡ with_building spans i b }
-{
-    let mut spans = spans;
-    spans.offsets[i] = b.offset;
-    spans.lengths[i] = b.length;
-    spans
+impl<'a> Group<'a> {
+    ghost use Rattle.std.specs.Prelude.{◌<◌, ◌≤◌, IfOk, length};
+    ghost use Rattle.sheet.specs.Refusals.{outcome_of};
+    ghost use Rattle.group.specs.Inner.Parts.{first_answer, part_in};
+
+    pub(crate) fn check(
+        sheets: &'a [u8],
+        buildings: &'a [Building],
+        reading: u64,
+    ) -> Result<Group<'a>, Refusal>
+        ensures answer { outcome_of result ≡ first_answer sheets.now buildings.now reading }
+        ensures group { IfOk result (λ group. (group.sheets ≡ sheets.entry) × (group.buildings ≡ buildings.entry) × (group.reading ≡ reading)) }
+    {
+        if bad_group(sheets, buildings, reading) {
+            return Err(Refusal::BadGroup);
+        }
+        Ok(Group {
+            sheets,
+            buildings,
+            reading,
+        })
+    }
+
+    pub(crate) fn len(self) -> usize
+        ensures { (result ≡ length self.entry.buildings.now) × (0 < result) × (result ≤ 12) }
+    {
+        self.buildings.len()
+    }
+
+    // Building i's part of the buffer.
+    pub(crate) fn part(self, i: usize) -> &'a [u8]
+        requires { i < length self.buildings.now }
+        ensures { result.now ≡ part_in self.entry i }
+    {
+        let building = self.buildings[i];
+        let from = building.offset as usize;
+        let to = from + building.length as usize;
+        &self.sheets[from..to]
+    }
 }
 
-pub(crate) fn spans_of(buildings: &[Building]) -> Spans
-    ensures { SpansOf buildings.now result }
-{
-    let n = buildings.len();
-    let end = shown(n);
-    let mut spans = no_spans(n);
-    let mut i: usize = 0;
-    while i < end {
-        let b = building_at(buildings, i);
-        spans = with_building(spans, i, b);
-        i += 1;
+impl<'a> PassedGroup<'a> {
+    ghost use Rattle.std.specs.Prelude.{◌<◌, length};
+    ghost use Rattle.group.specs.Inner.Parts.{part_in};
+
+    pub(crate) fn sheet(self, i: usize) -> Sheet<'a>
+        requires { i < length self.group.buildings.now }
+        ensures { result.bytes.now ≡ part_in self.entry.group i }
+    {
+        Sheet {
+            bytes: self.group.part(i),
+        }
     }
-    spans
 }

@@ -1,88 +1,90 @@
 // A figure of each building.
-ghost use Rattle.std.specs.Prelude.{◌≡◌, map, ◌≤◌, ◌<◌, length, take};
-ghost use Rattle.sheet.specs.declared.refusal.Outcome.TheVariants.{Accepted};
+ghost use Rattle.std.specs.Prelude.{◌≡◌, map, ◌<◌, IfOk, length};
 ghost use Rattle.sheet.specs.RuleSets.{newest};
 ghost use Rattle.sheet.specs.Inner.Fields.{header_field};
-ghost use Rattle.group.specs.Answer.{first_in, own_stages, differs, unlike};
-ghost use Rattle.group.specs.Inner.Spans.{parts_in, sheets_in, Inside, Passed};
-ghost use Rattle.group.specs.Inner.Figures.{Surveyed};
+ghost use Rattle.month.specs.Weights.{total_area};
+ghost use Rattle.group.specs.Answer.{first_in, own_stages, differs, answer_of};
+ghost use Rattle.group.specs.Inner.Parts.{part_in, parts_in, sheets_in};
+ghost use Rattle.group.specs.Inner.Figures.{common_heat, list_answer, survey_answer};
 
-use crate::answer::GroupAnswer;
-use crate::buildings::Spans;
-use crate::sheets::part;
-use settlement::survey_sheet;
-use sheet::{Outcome, header};
-use weights::head;
+use crate::answer::GroupRefusal;
+use crate::buildings::{Group, PassedGroup};
+use settlement::{Survey, survey_sheet};
+use sheet::Refusal;
+use sheet::header::Field;
 
-// Each building's own refusal 1 to 12, in list order; where there is none, P and the common heat of each.
-pub(crate) fn survey_all(
-    sheets: &[u8],
-    spans: Spans,
-    areas: &mut [u64],
-    commons: &mut [u64],
-) -> GroupAnswer
-    requires { Inside sheets.now spans × (length areas.old ≡ 12) × (length commons.old ≡ 12) }
-    ensures value { result ≡ first_in (own_stages 0 (parts_in sheets.now spans)) }
-    ensures surveyed { result.outcome ≡ Accepted → Surveyed newest sheets.now spans areas.new commons.new }
-{
-    for i in 0..spans.count {
-        let found = survey_sheet(sheet::NEWEST, part(sheets, spans, i));
-        let outcome = found.outcome;
-        let Outcome::Accepted = outcome else {
-            return GroupAnswer {
-                outcome,
+impl<'a> Group<'a> {
+    // Building i's own refusal 1 to 12; where there is none, P and the common heat.
+    fn survey_building(self, i: usize) -> Result<Survey, GroupRefusal>
+        requires { i < length self.buildings.now }
+        ensures { result ≡ survey_answer newest i (part_in self.entry i) }
+    {
+        match survey_sheet(sheet::NEWEST, self.part(i)) {
+            Ok(survey) => Ok(survey),
+            Err(refusal) => Err(GroupRefusal {
+                refusal,
                 building: i as u32,
-            };
-        };
-        areas[i] = found.area;
-        commons[i] = found.common;
-    }
-    GroupAnswer {
-        outcome: Outcome::Accepted,
-        building: 0,
-    }
-}
-
-// Header field k of each building.
-pub(crate) fn head_fields(sheets: &[u8], spans: Spans, k: usize, out: &mut [u64])
-    requires { Passed sheets.now spans × (k < 17) × (length out.old ≡ 12) }
-    ensures { take spans.count out.new ≡ map (λ s. header_field s k) (sheets_in sheets.now spans) }
-{
-    for i in 0..spans.count {
-        out[i] = head(part(sheets, spans, i), k);
-    }
-}
-
-// One of the first n numbers differs from the first.
-fn any_differs(n: usize, xs: &[u64]) -> bool
-    requires { (0 < n) × (n ≤ length xs.now) }
-    ensures { result ≡ differs (take n xs.now) }
-{
-    let first = xs[0];
-    for i in 1..n {
-        if xs[i] != first {
-            return true;
+            }),
         }
     }
-    false
-}
 
-fn field_differs(sheets: &[u8], spans: Spans, k: usize) -> bool
-    requires { Passed sheets.now spans × (k < 17) }
-    ensures { result ≡ differs (map (λ s. header_field s k) (sheets_in sheets.now spans)) }
-{
-    let mut values = [0u64; 12];
-    head_fields(sheets, spans, k, &mut values);
-    any_differs(spans.count, &values)
-}
-
-// 22 again: a month or price differs from the first building's.
-pub(crate) fn months_differ(sheets: &[u8], spans: Spans) -> bool
-    requires { Passed sheets.now spans }
-    ensures { result ≡ unlike (sheets_in sheets.now spans) }
-{
-    if field_differs(sheets, spans, header::MONTH) {
-        return true;
+    // All buildings, in list order, up to the first that is refused.
+    pub(crate) fn survey(
+        self,
+        areas: &mut [u64],
+        commons: &mut [u64],
+    ) -> Result<PassedGroup<'a>, GroupRefusal>
+        requires { (length areas.old ≡ length self.buildings.now) × (length commons.old ≡ length self.buildings.now) }
+        ensures answer { answer_of result ≡ first_in (own_stages 0 (parts_in self.entry)) }
+        ensures group { IfOk result (λ passed. passed.group ≡ self.entry) }
+        ensures areas { IfOk result (λ passed. areas.new ≡ map total_area (sheets_in self.entry)) }
+        ensures commons { IfOk result (λ passed. commons.new ≡ map (common_heat newest) (sheets_in self.entry)) }
+    {
+        for i in 0..self.len() {
+            let survey = self.survey_building(i)?;
+            areas[i] = survey.area;
+            commons[i] = survey.common;
+        }
+        Ok(PassedGroup { group: self })
     }
-    field_differs(sheets, spans, header::PRICE)
+}
+
+impl<'a> PassedGroup<'a> {
+    // A header field of each building.
+    pub(crate) fn fields(self, field: Field, out: &mut [u64])
+        requires { length out.old ≡ length self.group.buildings.now }
+        ensures { out.new ≡ map (λ s. header_field s field) (sheets_in self.entry.group) }
+    {
+        for (i, figure) in out.iter_mut().enumerate() {
+            *figure = u64::from(self.sheet(i).header(field));
+        }
+    }
+
+    // A building's field differs from the first building's.
+    fn differs(self, field: Field) -> bool
+        ensures { result ≡ differs (map (λ s. header_field s field) (sheets_in self.entry.group)) }
+    {
+        let mut values = [0u64; 12];
+        let values = &mut values[..self.group.len()];
+        self.fields(field, values);
+        let first = values[0];
+        values.iter().any(|&value| value != first)
+    }
+
+    // 22 again, and 13.
+    pub(crate) fn check_list(self, numbers: usize) -> Result<(), Refusal>
+        ensures { result ≡ list_answer (sheets_in self.entry.group) numbers }
+    {
+        if self.differs(Field::Month) || self.differs(Field::Price) {
+            return Err(Refusal::BadGroup);
+        }
+        let mut units = [0u64; 12];
+        let units = &mut units[..self.group.len()];
+        self.fields(Field::UnitCount, units);
+        let count: u64 = units.iter().sum();
+        if numbers as u64 != 8 * count {
+            return Err(Refusal::BufferLength);
+        }
+        Ok(())
+    }
 }

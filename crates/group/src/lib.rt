@@ -6,8 +6,7 @@ mod buildings;
 mod difference;
 mod figures;
 mod settling;
-mod sheets;
 
-pub use answer::GroupAnswer;
-pub use buildings::{Building, Spans};
-pub use settling::{settle_group, settle_spans};
+pub use answer::GroupRefusal;
+pub use buildings::Building;
+pub use settling::settle_group;

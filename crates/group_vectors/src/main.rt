@@ -5,9 +5,7 @@
 
 ghost use Rattle.std.specs.Prelude.{◌≤◌, length};
 
-use console::wide;
-use group::{GroupAnswer, Spans};
-use sheet::Outcome;
+use group::{Building, GroupRefusal};
 use std::io;
 
 // No stored call is longer.
@@ -16,106 +14,97 @@ const LONGEST: usize = 15_999;
 // No list is longer.
 const MOST_NUMBERS: usize = 2561;
 
+// The count of a call's buildings has 8 bits.
+const MOST_BUILDINGS: usize = 255;
+
 // 250,000 bytes hold no more calls.
 const MOST_CALLS: usize = 125_000;
 
-fn print_answer(rt: &impl Print, answer: GroupAnswer, list: &[u32]) -> io::Result<()> {
-    let outcome = answer.outcome;
-    let Outcome::Refused(r) = outcome else {
-        console::answer(rt, outcome)?;
-        return console::print_settled(rt, list);
-    };
-    console::number(rt, wide(sheet::number(r)))?;
-    console::word(rt, wide(sheet::place(r)) + 160 * wide(answer.building))?;
-    console::word(rt, console::digest(list))
+// A refusal's place is raised by 160 × its building's.
+fn print_refusal(rt: &impl Print, e: GroupRefusal) -> io::Result<()> {
+    console::number(rt, u64::from(e.refusal.number()))?;
+    let place = u64::from(e.refusal.place()) + 160 * u64::from(e.building);
+    console::word(rt, place)
 }
 
-// Reads a buffer as long as this one.
-fn call(
-    rt: &(impl Input + Print),
-    buffer: &mut [u8],
-    spans: Spans,
+const NO_BUILDING: Building = Building {
+    offset: 0,
+    length: 0,
+};
+
+fn next64(rt: &impl Input) -> io::Result<Option<u64>> {
+    Ok(console::next(rt)?.map(u64::from_le_bytes))
+}
+
+fn next_building(rt: &impl Input) -> io::Result<Option<Building>> {
+    let (Some(offset), Some(length)) = (next64(rt)?, next64(rt)?) else {
+        return Ok(None);
+    };
+    Ok(Some(Building { offset, length }))
+}
+
+// Nothing where the input doesn't have them all.
+fn next_buildings(rt: &impl Input, count: usize) -> io::Result<Option<[Building; MOST_BUILDINGS]>>
+    requires { count ≤ MOST_BUILDINGS }
+{
+    let mut buildings = [NO_BUILDING; MOST_BUILDINGS];
+    for building in buildings[..count].iter_mut() {
+        let Some(next) = next_building(rt)? else {
+            return Ok(None);
+        };
+        *building = next;
+    }
+    Ok(Some(buildings))
+}
+
+fn answer(
+    rt: &impl Print,
+    buffer: &[u8],
+    buildings: &[Building],
     reading: u64,
     list: &mut [u32],
 ) -> io::Result<()>
-    requires { length list.old ≤ 2561 }
+    requires { length list.old ≤ MOST_NUMBERS }
 {
-    let n = console::read_full(rt, buffer)?;
     console::count_up(list);
-    let answer = group::settle_spans(&buffer[..n], spans, reading, list);
-    print_answer(rt, answer, list)?;
+    match group::settle_group(buffer, buildings, reading, list) {
+        Ok(()) => {
+            rt.print("0 0")?;
+            console::print_settled(rt, list)?;
+        }
+        Err(e) => {
+            print_refusal(rt, e)?;
+            console::word(rt, console::digest(list))?;
+        }
+    }
     console::newline(rt)
 }
 
-fn call_with(
-    rt: &(impl Input + Print),
-    length: usize,
-    spans: Spans,
-    reading: u64,
-    numbers: usize,
-) -> io::Result<()>
-    requires { (length ≤ 15999) × (numbers ≤ 2561) }
+// Passes over a call that ends before its buffer, has no room for it or has too long a list.
+fn answer_next(rt: &(impl Input + Print), length: usize) -> io::Result<()>
+    requires { length ≤ LONGEST }
 {
-    let mut buffer = [0u8; LONGEST];
-    let mut list = [0u32; MOST_NUMBERS];
-    call(
-        rt,
-        &mut buffer[..length],
-        spans,
-        reading,
-        &mut list[..numbers],
-    )
-}
-
-// Of a thirteenth building only the count is kept.
-fn with(spans: Spans, i: usize, offset: u64, length: u64) -> Spans {
-    if 11 < i {
-        return spans;
-    }
-    let mut spans = spans;
-    spans.offsets[i] = offset;
-    spans.lengths[i] = length;
-    spans
-}
-
-fn next_spans(rt: &impl Input, count: usize) -> io::Result<Spans> {
-    let mut spans = Spans {
-        count,
-        offsets: [0u64; 12],
-        lengths: [0u64; 12],
+    let Some(count) = console::next(rt)?.map(u8::from_le_bytes) else {
+        return Ok(());
     };
-    for i in 0..count {
-        let offset = console::next64(rt)?;
-        let length = console::next64(rt)?;
-        spans = with(spans, i, offset, length);
-    }
-    Ok(spans)
-}
-
-fn call_next(rt: &(impl Input + Print), length: usize) -> io::Result<()>
-    requires { length ≤ 15999 }
-{
-    let count = console::next8(rt)? as usize;
-    let spans = next_spans(rt, count)?;
-    let reading = console::next64(rt)?;
-    let numbers = console::next16(rt)? as usize;
+    let count = usize::from(count);
+    let buildings = next_buildings(rt, count)?;
+    let reading = next64(rt)?;
+    let numbers = console::next_up_to(rt, MOST_NUMBERS)?;
+    let (Some(buildings), Some(reading), Some(numbers)) = (buildings, reading, numbers) else {
+        return Ok(());
+    };
     let before = 11 + 16 * count;
     if length < before {
         return Ok(());
     }
-    if MOST_NUMBERS < numbers {
-        return Ok(());
-    }
-    call_with(rt, length - before, spans, reading, numbers)
+    let mut list = [0u32; MOST_NUMBERS];
+    let list = &mut list[..numbers];
+    console::with_input::<LONGEST, _>(rt, length - before, |buffer| {
+        answer(rt, buffer, &buildings[..count], reading, list)
+    })
 }
 
 fn main(rt: HostRuntime) -> io::Result<()> {
-    for _ in 0..MOST_CALLS {
-        let length = console::next16(&rt)? as usize;
-        if LONGEST < length {
-            return Ok(());
-        }
-        call_next(&rt, length)?;
-    }
-    Ok(())
+    console::each_length(&rt, MOST_CALLS, LONGEST, |length| answer_next(&rt, length))
 }

@@ -1,3 +1,2 @@
 -- What the proofs share.
-mod Numbers
 mod YearList

@@ -1,8 +1,7 @@
 -- The year call with a lent list of 9 numbers, k and the eight sums: 15, then 13 for a list of another length, then 18 and 19.
 use Rattle.std.specs.Prelude.{not, List, ◌∷◌, ℕ, eqb, length}
 use Rattle.sheet.specs.declared.refusal.Refusal.TheVariants.{BadYearBook, BufferLength}
-use Rattle.sheet.specs.declared.refusal.Outcome.{Outcome}
-use Rattle.sheet.specs.Refusals.{◌⇒◌, first_refusal, afterwards}
+use Rattle.sheet.specs.Refusals.{Outcome, ◌⇒◌, first_refusal, afterwards}
 use Rattle.yearbook.specs.LentBook.{Lent, bad_book, year_rules, marks_in, sums_at}
 
 -- 15 comes first in book calls; of 13, 18 and 19 the lowest number

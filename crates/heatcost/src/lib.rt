@@ -1,7 +1,8 @@
 // The calls for other languages. An answer of 32 bits is 0 when accepted, else number + 256 × place; one of 64 bits is a length.
 #![tactic(auto)]
 
-ghost use Rattle.std.specs.Prelude.{◌≡◌, ◌∷◌, ◌≤◌, ◌<◌, length};
+ghost use Rattle.std.specs.Prelude.{◌≡◌, ◌∷◌, ◌≤◌, ◌<◌, IfErr, length};
+ghost use Rattle.sheet.specs.Refusals.{place_of};
 ghost use Rattle.sheet.specs.Inner.Places.{PlaceBelow};
 ghost use Rattle.sheet.specs.RuleSets.{newest};
 ghost use Rattle.month.specs.Month.{settled_sheet};
@@ -17,16 +18,17 @@ ghost use Rattle.heatcost.specs.Answer.{answer_number, group_number};
 ghost use Rattle.heatcost.specs.Year.{year_list_answer, year_list_after};
 
 use charges::Amounts;
-use group::{Building, GroupAnswer};
-use sheet::{Outcome, Refusal};
+use group::{Building, GroupRefusal};
+use sheet::Refusal;
+use yearbook::YearTotals;
 
-fn answer(outcome: Outcome) -> u32
+fn answer(outcome: Result<(), Refusal>) -> u32
     requires { PlaceBelow 160 outcome }
     ensures { result ≡ answer_number outcome }
 {
     match outcome {
-        Outcome::Accepted => 0,
-        Outcome::Refused(r) => sheet::number(r) + 256 * sheet::place(r),
+        Ok(()) => 0,
+        Err(refusal) => refusal.number() + 256 * refusal.place(),
     }
 }
 
@@ -107,14 +109,29 @@ pub extern "C" fn heatcost_withdraw(book: &mut [u32], sums: &mut [u64], month: u
     answer(yearbook::withdraw(book, sums, month))
 }
 
-fn put_totals(k: u32, sums: &[u64], totals: &mut [u64])
-    requires { (length sums.now ≡ 8) × (length totals.old ≡ 9) }
-    ensures { totals.new ≡ k ∷ sums.now }
+// k, then a unit's eight sums.
+fn put_totals(year: &YearTotals, totals: &mut [u64])
+    requires { length totals.old ≡ 9 }
+    ensures { totals.new ≡ year.now.k ∷ year.now.sums }
 {
-    totals[0] = k as u64;
-    for j in 0..8usize {
-        totals[1 + j] = sums[j];
+    totals[0] = u64::from(year.k);
+    totals[1..].copy_from_slice(&year.sums);
+}
+
+// 15, 13, 18, 19, then k and the sums.
+fn year_into(book: &[u32], sums: &[u64], place: u32, totals: &mut [u64]) -> Result<(), Refusal>
+    ensures value { result ≡ year_list_answer (lent book.now sums.now) place totals.old }
+    ensures totals_after { totals.new ≡ year_list_after (lent book.now sums.now) place totals.old }
+{
+    if totals.len() != 9 {
+        if yearbook::bad_book(book) {
+            return Err(Refusal::BadYearBook);
+        }
+        return Err(Refusal::BufferLength);
     }
+    let year = yearbook::year(book, sums, place)?;
+    put_totals(&year, totals);
+    Ok(())
 }
 
 // k and a unit's eight sums into a list of 9 numbers: 15, 13, 18, 19.
@@ -123,31 +140,17 @@ pub extern "C" fn heatcost_year(book: &[u32], sums: &[u64], place: u32, totals: 
     ensures value { result ≡ answer_number (year_list_answer (lent book.now sums.now) place totals.old) }
     ensures totals_after { totals.new ≡ year_list_after (lent book.now sums.now) place totals.old }
 {
-    if totals.len() != 9 {
-        if yearbook::bad_book(book) {
-            return answer(Outcome::Refused(Refusal::BadYearBook));
-        }
-        return answer(Outcome::Refused(Refusal::BufferLength));
-    }
-    let t = yearbook::year(book, sums, place);
-    let outcome = t.outcome;
-    let unit = t.sums;
-    let Outcome::Accepted = outcome else {
-        return answer(outcome);
-    };
-    put_totals(t.k, &unit, totals);
-    0
+    answer(year_into(book, sums, place, totals))
 }
 
 // A group's answer: number + 256 × (place + 160 × building).
-fn group_answer(a: GroupAnswer) -> u32
-    requires { PlaceBelow 160 a.outcome × (a.building < 12) }
-    ensures { result ≡ group_number a }
+fn group_answer(outcome: Result<(), GroupRefusal>) -> u32
+    requires { IfErr outcome (λ e. (place_of e.refusal < 160) × (e.building < 12)) }
+    ensures { result ≡ group_number outcome }
 {
-    let outcome = a.outcome;
     match outcome {
-        Outcome::Accepted => 0,
-        Outcome::Refused(r) => sheet::number(r) + 256 * (sheet::place(r) + 160 * a.building),
+        Ok(()) => 0,
+        Err(e) => e.refusal.number() + 256 * (e.refusal.place() + 160 * e.building),
     }
 }
 

@@ -1,5 +1,5 @@
 -- A sheet that no refusal meets has what specs/Accepted.antt lists, and its divisions have weights. Assumes nothing.
-use Rattle.std.specs.Prelude.{if◌then◌else◌}
+use Rattle.std.specs.Prelude.{if◌then◌else◌, Ok}
 use mathlib.Core.Path.{◌≡◌, refl}
 use mathlib.Core.Bool.{Bool, true, false, ◌&&◌}
 use mathlib.Core.Logic.{◌⊎◌, inl, inr}
@@ -12,7 +12,6 @@ use borrow.Author.Tests.{ltb-false, eqb-true, eqb-false, lt-ltb, le-leb, eq-eqb,
 use lib.Dec.{ltb, leb, eqb}
 use lib.ListN.{length}
 use Rattle.apportion.specs.Shares.{sum}
-use Rattle.sheet.specs.declared.refusal.Outcome.TheVariants.{Accepted}
 use Rattle.sheet.specs.Tests.{Each}
 use Rattle.sheet.specs.Refusals.{first_refusal}
 use Rattle.sheet.specs.declared.rule_set.RuleSet.{RuleSet}
@@ -37,7 +36,7 @@ pub fits-checked : {perUnit : ℕ} {bytes : List ℕ} → Fits perUnit bytes →
 unfolding sheet_of
 fits-checked f = record { header = f.header; reading-count = refl; unit_count_lem = f.units_length; units = f.units }
 
-pub month-accepted : (s : Sheet) → CheckedSheet s → first_refusal (month_rules s) ≡ Accepted → AcceptedSheet s
+pub month-accepted : (s : Sheet) → CheckedSheet s → first_refusal (month_rules s) ≡ Ok tt → AcceptedSheet s
 unfolding month_rules
 month-accepted s c e =
     let m = none-holds (month_rules s) e in
@@ -50,7 +49,7 @@ month-accepted s c e =
       pool-fits = λ h. ltb-false (10000 * total_area s) (sum (unread_weights s)) (and_false (has_pool s) _ m.1.1.1.1.0 h);
     }
 
-pub accepted : (bytes : List ℕ) → first_refusal (settle_rules bytes) ≡ Accepted → AcceptedSheet (sheet_of bytes)
+pub accepted : (bytes : List ℕ) → first_refusal (settle_rules bytes) ≡ Ok tt → AcceptedSheet (sheet_of bytes)
 unfolding settle_rules checked
 accepted bytes e =
     let s = sheet_of bytes in

@@ -8,9 +8,8 @@ use borrow.Author.Tests.{eqb-true, eqb-false}
 use lib.Dec.{eqb}
 use lib.ListN.{length, get_or}
 use Rattle.apportion.specs.Shares.{sum}
-use Rattle.sheet.specs.declared.refusal.Outcome.{Outcome}
-use Rattle.sheet.specs.declared.refusal.Outcome.TheVariants.{Accepted, Refused}
-use Rattle.sheet.specs.Refusals.{first_refusal}
+use Rattle.sheet.specs.Refusals.{Outcome, first_refusal}
+use Rattle.std.specs.Prelude.{Ok, Err}
 use Rattle.sheet.specs.declared.rule_set.RuleSet.{RuleSet}
 use Rattle.sheet.specs.Layout.{UnitRow, Sheet, sheet_of}
 use Rattle.month.specs.Fraction.{Fraction, Near, ◌over◌}
@@ -141,13 +140,13 @@ module _ (rules : RuleSet) (s : Sheet) (a : AcceptedSheet s) where
 
 -- ---- any bytes
 -- what settles is the month of an accepted sheet
-pub settled-month : (rules : RuleSet) (bytes : List ℕ) (m : Month) → settled_sheet rules bytes ≡ settled m → (first_refusal (settle_rules bytes) ≡ Accepted) × (m ≡ month_of rules (sheet_of bytes))
+pub settled-month : (rules : RuleSet) (bytes : List ℕ) (m : Month) → settled_sheet rules bytes ≡ settled m → (first_refusal (settle_rules bytes) ≡ Ok tt) × (m ≡ month_of rules (sheet_of bytes))
 unfolding settled_sheet
 settled-month rules bytes m = go (first_refusal (settle_rules bytes)) refl
   where
-    go : (o : Outcome) → first_refusal (settle_rules bytes) ≡ o → unless_refused o (month_of rules (sheet_of bytes)) ≡ settled m → (first_refusal (settle_rules bytes) ≡ Accepted) × (m ≡ month_of rules (sheet_of bytes))
-    go Accepted e h = (e, cc)
-    go (Refused r) e h = absurd (let z : ◌≡◌ {A = ℕ} 0 1 = cc in omega arith)
+    go : (o : Outcome) → first_refusal (settle_rules bytes) ≡ o → unless_refused o (month_of rules (sheet_of bytes)) ≡ settled m → (first_refusal (settle_rules bytes) ≡ Ok tt) × (m ≡ month_of rules (sheet_of bytes))
+    go (Ok tt) e h = (e, cc)
+    go (Err r) e h = absurd (let z : ◌≡◌ {A = ℕ} 0 1 = cc in omega arith)
 
 pub settled-laws : SettledLaws
 settled-laws rules bytes m h =

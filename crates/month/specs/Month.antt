@@ -1,12 +1,10 @@
 -- A month settled: refusals 8 to 12, the bill, the statement (document 01, "Steps of a month", "Refused sheets and calls").
-use Rattle.std.specs.Prelude.{Bool, ◌&&◌, List, [], ◌∷◌, ◌++◌, map, ℕ, zero, suc, ◌+◌, ◌*◌, ◌/◌, leb, ltb, eqb, length, take, drop}
+use Rattle.std.specs.Prelude.{Bool, ◌&&◌, List, [], ◌∷◌, ◌++◌, map, ℕ, zero, suc, ◌+◌, ◌*◌, ◌/◌, leb, ltb, eqb, length, take, drop, Ok, Err}
 use Rattle.apportion.specs.Shares.{sum}
 use Rattle.sheet.specs.Tests.{any}
 use Rattle.sheet.specs.declared.refusal.Refusal.{Refusal}
 use Rattle.sheet.specs.declared.refusal.Refusal.TheVariants.{HotWaterExceedsMeter, ZeroDivisor, NoReadings, MetersExceedHeat, UnmeteredExceedsHeat}
-use Rattle.sheet.specs.declared.refusal.Outcome.{Outcome}
-use Rattle.sheet.specs.declared.refusal.Outcome.TheVariants.{Accepted, Refused}
-use Rattle.sheet.specs.Refusals.{Rule, ◌⇒◌, first_refusal}
+use Rattle.sheet.specs.Refusals.{Outcome, Rule, ◌⇒◌, first_refusal}
 use Rattle.sheet.specs.declared.rule_set.RuleSet.{RuleSet}
 use Rattle.sheet.specs.Layout.{Sheet, sheet_of}
 use Rattle.sheet.specs.Check.{sheet_rules}
@@ -104,8 +102,8 @@ unfoldable pub settle_rules : List ℕ → List Rule
 settle_rules bytes = sheet_rules 32 bytes ++ month_rules (sheet_of bytes)
 
 abbrev pub unless_refused : Outcome → Month → Settled
-unless_refused Accepted m = settled m
-unless_refused (Refused r) m = refused r
+unless_refused (Ok tt) m = settled m
+unless_refused (Err r) m = refused r
 
 unfoldable pub settled_sheet : RuleSet → List ℕ → Settled
 settled_sheet rules bytes = unless_refused (first_refusal (settle_rules bytes)) (month_of rules (sheet_of bytes))

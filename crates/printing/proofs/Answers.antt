@@ -7,15 +7,16 @@ use borrow.Author.Tests.{le-leb, lt-leb}
 use lib.ListN.{length, take, drop, take-append-drop}
 use lib.Seq.{take-append_seam}
 use Rattle.sheet.specs.declared.refusal.Refusal.{Refusal}
-use Rattle.sheet.specs.declared.refusal.Outcome.TheVariants.{Accepted, Refused}
+use Rattle.std.specs.Prelude.{Ok, Err, IsOk}
+use Rattle.sheet.proofs.Views.{accepted as passes}
 use Rattle.sheet.specs.RuleSets.{newest}
 use Rattle.sheet.specs.Layout.{sheet_of}
 use Rattle.sheet.specs.Check.{checked}
-use Rattle.month.specs.Month.{Month, Settled, refused, settled, month_of, settled_sheet}
+use Rattle.month.specs.Month.{Month, Settled, refused, settled, statement_of, month_of, settled_sheet}
 use Rattle.month.proofs.Accepted.{accepted}
-use Rattle.month.proofs.Laws.{settled-month}
-use Rattle.settlement.specs.Settle.{settle_answer}
-use Rattle.settlement.proofs.Answers.{settled-in_order, answer-is}
+use Rattle.month.proofs.Laws.{settled-month as month-is}
+use Rattle.settlement.specs.Settle.{settle_answer, statement_after}
+use Rattle.settlement.proofs.Answers.{settled-in_order, answer-is, settles, statement-is}
 use Rattle.printing.specs.Printed.{text_of, longest, at_front}
 use Rattle.printing.specs.Inner.Placed.{Placed, Prints}
 
@@ -27,23 +28,30 @@ module _ (x : Settled) (list : List ℕ) (short : length (text_of x) ≤ longest
   unfolding at_front
   list-too_short len e h = record { long = e; short = omega arith; list = rw (lt-leb (length text) (length list) (omega arith)) }
 
-  pub put-at_front : {after : List ℕ} {end : ℕ} → length text ≤ length list → Placed text list 0 after end → Prints x end list after
+  pub put-at_front : (len : ℕ) {after : List ℕ} {end : ℕ} → len ≡ length text → len ≤ length list → Placed text list 0 after end → Prints x len list after
   unfolding at_front
-  put-at_front {after} {end} h p =
+  put-at_front len {after} {end} long h p =
       let e : end ≡ length text = omega (arith, p.ends) in
       record {
-        long = e;
+        long = long;
         short = omega arith;
-        list = rw (le-leb (length text) (length list) h) (sym (take-append-drop end after) ∙ (λ i. p.front i ++ p.rest i) ∙ ap (λ (k : ℕ). text ++ drop k list) e);
+        list = rw (le-leb (length text) (length list) (omega arith)) (sym (take-append-drop end after) ∙ (λ i. p.front i ++ p.rest i) ∙ ap (λ (k : ℕ). text ++ drop k list) e);
       }
 
 -- ---- which text: 1 to 7, then 8 to 12 by way of a list of 8n numbers
-pub refused-sheet : (bytes : List ℕ) (r : Refusal) → checked 32 bytes ≡ Refused r → settled_sheet newest bytes ≡ refused r
+pub refused-sheet : (bytes : List ℕ) (r : Refusal) → checked 32 bytes ≡ Err r → settled_sheet newest bytes ≡ refused r
 refused-sheet bytes r e = rw (settled-in_order newest bytes, e)
 
-module _ (bytes list : List ℕ) (passed : checked 32 bytes ≡ Accepted) (room : length list ≡ 8 * (sheet_of bytes).unit_count) where
-  pub refused-month : (r : Refusal) → settle_answer newest bytes list ≡ Refused r → settled_sheet newest bytes ≡ refused r
-  refused-month r e = rw (settled-in_order newest bytes, passed, sym (answer-is newest bytes list passed room) ∙ e)
+module _ (bytes list : List ℕ) (passed : IsOk (checked 32 bytes)) (room : length list ≡ 8 * (sheet_of bytes).unit_count) where
+  pub refused-month : (r : Refusal) → settle_answer newest bytes list ≡ Err r → settled_sheet newest bytes ≡ refused r
+  refused-month r e = rw (settled-in_order newest bytes, passes _ passed, sym (answer-is newest bytes list (passes _ passed) room) ∙ e)
+
+  module _ (ok : settle_answer newest bytes list ≡ Ok tt) where
+    pub settled-month : settled_sheet newest bytes ≡ settled (month_of newest (sheet_of bytes))
+    settled-month = settles newest bytes list (passes _ passed) room ok
+
+    pub statement : {after : List ℕ} → after ≡ statement_after newest bytes list → after ≡ statement_of newest (sheet_of bytes)
+    statement e = e ∙ statement-is newest bytes list (passes _ passed) room ok
 
 -- ---- a list of 15,889 bytes has room for every text
 pub room_for_all : (bytes : List ℕ) → longest (settled_sheet newest bytes) ≤ 15889
@@ -53,7 +61,7 @@ room_for_all bytes = go (settled_sheet newest bytes) refl
     go : (x : Settled) → settled_sheet newest bytes ≡ x → longest x ≤ 15889
     go (refused r) e = omega arith
     go (settled m) e =
-        let is = settled-month newest bytes m e in
+        let is = month-is newest bytes m e in
         omega (arith, ap (λ (m : Month). m.unit_count) is.1, (accepted bytes is.0).checked-sheet.header.unit_count)
 
 pub front-is : (text list : List ℕ) → length text ≤ length list → take (length text) (at_front text list) ≡ text

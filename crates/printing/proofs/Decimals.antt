@@ -75,3 +75,13 @@ short-by (suc f) (suc j) x h =
 pub decimal-short : (j x : ℕ) → x < 10 ^ suc j → length (decimal x) ≤ suc j
 unfolding decimal
 decimal-short j x h = short-by 20 j x h
+
+-- of any number
+most-by : (f x : ℕ) → length (digits_up_to (suc f) x) ≤ suc f
+unfolding digits_up_to
+most-by zero x = either_short (ltb x 10) _ _ 1 (omega arith) (omega arith)
+most-by (suc f) x = either_short (ltb x 10) _ _ (suc (suc f)) (omega arith) (omega (arith, most-by f (x / 10), length-append (digits_up_to (suc f) (x / 10)) (digit (x % 10) ∷ [])))
+
+pub decimal_most : (x : ℕ) → length (decimal x) ≤ 20
+unfolding decimal
+decimal_most x = most-by 19 x

@@ -10,7 +10,7 @@ use lib.Dec.{leb, eqb}
 use lib.ListN.{length, take, drop, length-append, take-append-drop}
 use lib.Seq.{length-take-le, take-append-le}
 use Rattle.sheet.specs.declared.refusal.Refusal.{Refusal}
-use Rattle.sheet.specs.declared.refusal.Outcome.TheVariants.{Refused}
+use Rattle.std.specs.Prelude.{Err}
 use Rattle.sheet.specs.declared.refusal.Refusal.TheVariants.{BadMagic, UnsupportedVersion, HeaderField}
 use Rattle.sheet.specs.RuleSets.{newest}
 use Rattle.sheet.specs.Refusals.{first_refusal}
@@ -33,7 +33,7 @@ refusal_by true true true false = HeaderField 7
 refusal_by true true true true = HeaderField 8
 
 module _ (s : Sheet) (many : 160 < s.unit_count) where
-  too_many : (month model : Bool) → passes (s.month within 1 to 12) ≡ month → passes (s.model within 1 to 5) ≡ model → first_refusal (map header_rule (header_tests s)) ≡ Refused (refusal_by true true month model)
+  too_many : (month model : Bool) → passes (s.month within 1 to 12) ≡ month → passes (s.model within 1 to 5) ≡ model → first_refusal (map header_rule (header_tests s)) ≡ Err (refusal_by true true month model)
   unfolding header_tests first_refusal refusal_by
   too_many false model e f = rw e
   too_many true false e f = rw (e, f)

@@ -1,2 +1,6 @@
 -- What inner functions promise each other. Nothing in here need be believed.
 pub mod Placed
+pub mod Lines
+pub mod Sinks
+pub mod Counters
+pub mod Writers

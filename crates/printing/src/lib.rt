@@ -1,8 +1,8 @@
 // What is printed of a sheet (document 01, "Printing").
 #![tactic(auto)]
 
-mod lengths;
 mod render;
+mod sink;
 mod text;
 
 pub use text::{LONGEST, print};

@@ -1,111 +1,75 @@
-// Words, numbers and lines put into a list at a place; each answers where they end.
-ghost use Rattle.std.specs.Prelude.{◌≡◌, map, ◌++◌, ◌+◌, ◌*◌, ◌≤◌, length};
-ghost use Rattle.sheet.specs.RuleSets.{newest};
+// The lines of a text, put into a sink.
+ghost use Rattle.std.specs.Prelude.{◌≡◌, map, ◌++◌, ◌*◌, ◌≤◌, length};
 ghost use Rattle.sheet.specs.Layout.{sheet_of};
-ghost use Rattle.sheet.specs.Inner.Fits.{Fits};
-ghost use Rattle.month.specs.Month.{month_of};
-ghost use Rattle.printing.specs.Text.{ascii, decimal, line};
-ghost use Rattle.printing.specs.Printed.{first_line, unit_lines, refusal_line};
-ghost use Rattle.printing.specs.Inner.Placed.{Placed};
+ghost use Rattle.printing.specs.Text.{decimal, line};
+ghost use Rattle.printing.specs.Printed.{refusal_line};
+ghost use Rattle.printing.specs.Inner.Lines.{first_line_of, unit_lines_of, month_lines};
 
-use sheet::{Refusal, header, rows};
-
-fn put_bytes(from: &[u8], text: &mut [u8], at: usize) -> usize
-    requires { at + length from.now ≤ length text.old }
-    ensures { Placed from.now text.old at text.new result }
-{
-    for i in 0..from.len() {
-        text[at + i] = from[i];
-    }
-    at + from.len()
-}
-
-fn put_decimal(x: u64, text: &mut [u8], at: usize) -> usize
-    requires { at + length (decimal x) ≤ length text.old }
-    ensures { Placed (decimal x) text.old at text.new result }
-{
-    let mut digits = [0u8; 20];
-    let k = io::decimal(x, &mut digits);
-    put_bytes(&digits[..k], text, at)
-}
+use crate::sink::Sink;
+use sheet::{Refusal, Sheet, header, rows};
 
 // A label and a number.
-fn put_labelled(label: &[u8], x: u64, text: &mut [u8], at: usize) -> usize
-    requires { at + length (label.now ++ decimal x) ≤ length text.old }
-    ensures { Placed (label.now ++ decimal x) text.old at text.new result }
+fn put_labelled<S: Sink>(sink: &mut S, label: &[u8], x: u64)
+    requires { length (label.now ++ decimal x) ≤ S.left sink.old }
+    ensures { S.took sink.old (label.now ++ decimal x) sink.new }
 {
-    let end = put_bytes(label, text, at);
-    put_decimal(x, text, end)
+    sink.put(label);
+    sink.put_number(x);
 }
 
-fn put_spaced(x: u32, text: &mut [u8], at: usize) -> usize
-    requires { at + length (ascii " " ++ decimal x) ≤ length text.old }
-    ensures { Placed (ascii " " ++ decimal x) text.old at text.new result }
+pub(crate) fn put_refusal<S: Sink>(sink: &mut S, refusal: Refusal)
+    requires { length (refusal_line refusal) ≤ S.left sink.old }
+    ensures { S.took sink.old (refusal_line refusal) sink.new }
 {
-    put_labelled(b" ", x as u64, text, at)
-}
-
-fn end_line(text: &mut [u8], at: usize) -> usize
-    requires { at + 1 ≤ length text.old }
-    ensures { Placed (ascii "\n") text.old at text.new result }
-{
-    text[at] = b'\n';
-    at + 1
-}
-
-pub(crate) fn put_refusal_line(r: Refusal, text: &mut [u8]) -> usize
-    requires { length (refusal_line r) ≤ length text.old }
-    ensures { Placed (refusal_line r) text.old 0 text.new result }
-{
-    let at = put_labelled(b"refused ", sheet::number(r) as u64, text, 0);
-    let at = put_spaced(sheet::place(r), text, at);
-    end_line(text, at)
+    put_labelled(sink, b"refused ", u64::from(refusal.number()));
+    put_labelled(sink, b" ", u64::from(refusal.place()));
+    sink.put(b"\n");
 }
 
 // Month, n, M, bill.
-pub(crate) fn put_first_line(sheet: &[u8], text: &mut [u8]) -> usize
-    requires { Fits 32 sheet.now × (length (first_line (month_of newest (sheet_of sheet.now))) ≤ length text.old) }
-    ensures { Placed (first_line (month_of newest (sheet_of sheet.now))) text.old 0 text.new result }
+fn put_first_line<S: Sink>(sink: &mut S, sheet: Sheet<'_>)
+    requires { length (first_line_of sheet.bytes.now) ≤ S.left sink.old }
+    ensures { S.took sink.old (first_line_of sheet.entry.bytes.now) sink.new }
 {
-    let month = header::header_field(sheet, header::MONTH) as u64;
-    let count = header::header_field(sheet, header::UNIT_COUNT) as u64;
-    let meter = header::header_field(sheet, header::SHARED_METER) as u64;
+    let month = u64::from(sheet.header(header::Field::Month));
+    let count = u64::from(sheet.header(header::Field::UnitCount));
+    let meter = u64::from(sheet.header(header::Field::SharedMeter));
     let bill = settlement::bill_cents(sheet);
-    let at = put_labelled(b"month ", month, text, 0);
-    let at = put_labelled(b" units ", count, text, at);
-    let at = put_labelled(b" wh ", meter, text, at);
-    let at = put_labelled(b" cents ", bill, text, at);
-    end_line(text, at)
+    put_labelled(sink, b"month ", month);
+    put_labelled(sink, b" units ", count);
+    put_labelled(sink, b" wh ", meter);
+    put_labelled(sink, b" cents ", bill);
+    sink.put(b"\n");
 }
 
 // Id, four Wh, four cents.
-fn put_unit_line(id: u32, numbers: &[u32], text: &mut [u8], at: usize) -> usize
-    requires { (length numbers.now ≡ 8) × (at + length (line (decimal id) (map decimal numbers.now)) ≤ length text.old) }
-    ensures { Placed (line (decimal id) (map decimal numbers.now)) text.old at text.new result }
+fn put_unit<S: Sink>(sink: &mut S, id: u32, numbers: &[u32])
+    requires { length (line (decimal id) (map decimal numbers.now)) ≤ S.left sink.old }
+    ensures { S.took sink.old (line (decimal id) (map decimal numbers.now)) sink.new }
 {
-    let mut end = put_decimal(id as u64, text, at);
-    for j in 0..8usize {
-        end = put_spaced(numbers[j], text, end);
+    sink.put_number(u64::from(id));
+    for &number in numbers {
+        put_labelled(sink, b" ", u64::from(number));
     }
-    end_line(text, end)
+    sink.put(b"\n");
 }
 
-pub(crate) fn put_unit_lines(sheet: &[u8], statement: &[u32], text: &mut [u8], at: usize) -> usize
-    requires fits { Fits 32 sheet.now × (length statement.now ≡ 8 * (sheet_of sheet.now).unit_count) }
-    requires statement_in_bounds { at + length (unit_lines (month_of newest (sheet_of sheet.now)).ids statement.now) ≤ length text.old }
-    ensures { Placed (unit_lines (month_of newest (sheet_of sheet.now)).ids statement.now) text.old at text.new result }
+fn put_units<S: Sink>(sink: &mut S, sheet: Sheet<'_>, statement: &[u32])
+    requires numbers { length statement.now ≡ 8 * (sheet_of sheet.bytes.now).unit_count }
+    requires room { length (unit_lines_of sheet.bytes.now statement.now) ≤ S.left sink.old }
+    ensures { S.took sink.old (unit_lines_of sheet.entry.bytes.now statement.now) sink.new }
 {
-    let mut end = at;
-    for i in 0..statement.len() / 8 {
-        let next = i + 1;
-        let start = 8 * i;
-        let stop = 8 * next;
-        end = put_unit_line(
-            rows::unit_field(sheet, i, rows::ID),
-            &statement[start..stop],
-            text,
-            end,
-        );
+    for (i, numbers) in statement.chunks_exact(8).enumerate() {
+        put_unit(sink, sheet.row(i).field(rows::Field::Id), numbers);
     }
-    end
+}
+
+// Of a sheet and its statement of 8n numbers.
+pub(crate) fn put_month<S: Sink>(sink: &mut S, sheet: Sheet<'_>, statement: &[u32])
+    requires numbers { length statement.now ≡ 8 * (sheet_of sheet.bytes.now).unit_count }
+    requires room { length (month_lines sheet.bytes.now statement.now) ≤ S.left sink.old }
+    ensures { S.took sink.old (month_lines sheet.entry.bytes.now statement.now) sink.new }
+{
+    put_first_line(sink, sheet);
+    put_units(sink, sheet, statement);
 }

@@ -2,30 +2,12 @@
 #![tactic(auto)]
 
 ghost use Rattle.std.specs.Prelude.{◌≡◌};
-ghost use Rattle.std.specs.Io.{ReadsAtMost};
 ghost use Rattle.printing.specs.Printed.{printed};
 
 use std::io;
-use std::io::Read;
 
 // One byte more than the longest sheet: a longer input prints what its first 5,169 bytes print.
 const ROOM: usize = 5169;
-
-// Fills the buffer from standard input, as far as it goes. How many bytes were read, or an error where a read failed.
-fn read_input(rt: &impl Input, buffer: &mut [u8]) -> io::Result<usize>
-    ensures { ReadsAtMost result buffer.new }
-{
-    let mut reader = rt.reader();
-    let mut done = 0;
-    while done < buffer.len() {
-        let n = reader.read(&mut buffer[done..])?;
-        if n == 0 {
-            return Ok(done);
-        }
-        done += n;
-    }
-    Ok(done)
-}
 
 // Takes only the text of the bytes beside it.
 fn write_text(rt: &impl Print, sheet: &[u8], text: &[u8]) -> io::Result<()>
@@ -44,7 +26,7 @@ pub fn print(rt: &impl Print, sheet: &[u8]) -> io::Result<()> {
 // A failure is a line on standard error, and the status stays 0.
 pub fn run(rt: &(impl Input + Print + Eprint)) {
     let mut buffer = [0u8; ROOM];
-    let Ok(n) = read_input(rt, &mut buffer) else {
+    let Ok(n) = console::read_full(rt, &mut buffer) else {
         let _ = rt.eprint("statement: the input can't be read\n");
         return;
     };

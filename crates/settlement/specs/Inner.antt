@@ -2,5 +2,4 @@
 pub mod Numbers
 pub mod Division
 pub mod Heat
-pub mod Measured
 pub mod Building

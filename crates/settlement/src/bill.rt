@@ -1,13 +1,13 @@
 // Step 7: a bill and its parts.
 ghost use Rattle.std.specs.Prelude.{◌≡◌, ◌*◌, ◌≤◌, length};
 ghost use Rattle.sheet.specs.Layout.{sheet_of};
-ghost use Rattle.sheet.specs.Inner.Fits.{Fits};
 ghost use Rattle.month.specs.Month.{cents_for, bill_cents};
+ghost use Rattle.sheet.specs.declared.rule_set.RuleSet.{RuleSet};
 ghost use Rattle.settlement.specs.Inner.Numbers.{Billed, with_costs};
 
 use crate::layout::{energy_weights, put_costs};
-use sheet::header;
-use weights::{Basis, head};
+use sheet::Sheet;
+use sheet::header::Field;
 
 // Reading × price / 1,000,000 in cents, half up.
 pub fn cents_for(reading: u64, price: u64) -> u64
@@ -18,41 +18,45 @@ pub fn cents_for(reading: u64, price: u64) -> u64
 }
 
 // The month's bill, of M.
-pub fn bill_cents(s: &[u8]) -> u64
-    requires { Fits 32 s.now }
-    ensures { result ≡ bill_cents (sheet_of s.now) }
+pub fn bill_cents(sheet: Sheet<'_>) -> u64
+    ensures { (result ≡ bill_cents (sheet_of sheet.entry.bytes.now)) × (result ≤ 400000000) }
 {
-    cents_for(head(s, header::SHARED_METER), head(s, header::PRICE))
+    cents_for(
+        u64::from(sheet.header(Field::SharedMeter)),
+        u64::from(sheet.header(Field::Price)),
+    )
 }
 
 // A bill divided over the 4n energies of a statement, with room for 4n numbers each.
 fn costs_in(
-    basis: Basis,
+    n: usize,
     bill: u64,
     weights: &mut [u64],
     remainders: &mut [u64],
     cents: &mut [u32],
     statement: &mut [u32],
 )
-    requires billed { Billed basis bill statement.old }
-    requires weights_len { (length weights.old ≡ 4 * basis.units) × (length remainders.old ≡ 4 * basis.units) × (length cents.old ≡ 4 * basis.units) }
-    ensures { statement.new ≡ with_costs basis bill statement.old }
+    requires billed { Billed n bill statement.old }
+    requires rooms { (length weights.old ≡ 4 * n) × (length remainders.old ≡ 4 * n) × (length cents.old ≡ 4 * n) }
+    ensures { (rules : RuleSet) → statement.new ≡ with_costs rules n bill statement.old }
 {
-    energy_weights(basis.units, statement, weights);
+    energy_weights(n, statement, weights);
     apportion::apportion(bill, weights, remainders, cents);
-    put_costs(basis.units, cents, statement);
+    put_costs(n, cents, statement);
 }
 
-fn costs_up_to_16(basis: Basis, bill: u64, statement: &mut [u32])
-    requires { Billed basis bill statement.old × (basis.units ≤ 16) }
-    ensures { statement.new ≡ with_costs basis bill statement.old }
+// With room for N numbers each.
+fn costs_with_room<const N: usize>(n: usize, bill: u64, statement: &mut [u32])
+    requires billed { Billed n bill statement.old }
+    requires room { (4 * n ≤ N) × (N ≤ 640) }
+    ensures { (rules : RuleSet) → statement.new ≡ with_costs rules n bill statement.old }
 {
-    let mut weights = [0u64; 64];
-    let mut remainders = [0u64; 64];
-    let mut cents = [0u32; 64];
-    let m = 4 * basis.units;
+    let mut weights = [0u64; N];
+    let mut remainders = [0u64; N];
+    let mut cents = [0u32; N];
+    let m = 4 * n;
     costs_in(
-        basis,
+        n,
         bill,
         &mut weights[..m],
         &mut remainders[..m],
@@ -61,32 +65,14 @@ fn costs_up_to_16(basis: Basis, bill: u64, statement: &mut [u32])
     );
 }
 
-fn costs_up_to_160(basis: Basis, bill: u64, statement: &mut [u32])
-    requires { Billed basis bill statement.old }
-    ensures { statement.new ≡ with_costs basis bill statement.old }
+// The cents of a statement of n units from its energies, by any rules; few units need little room.
+pub(crate) fn write_costs(n: usize, bill: u64, statement: &mut [u32])
+    requires { Billed n bill statement.old }
+    ensures { (rules : RuleSet) → statement.new ≡ with_costs rules n bill statement.old }
 {
-    let mut weights = [0u64; 640];
-    let mut remainders = [0u64; 640];
-    let mut cents = [0u32; 640];
-    let m = 4 * basis.units;
-    costs_in(
-        basis,
-        bill,
-        &mut weights[..m],
-        &mut remainders[..m],
-        &mut cents[..m],
-        statement,
-    );
-}
-
-// The cents of a statement from its energies; few units need little room.
-pub(crate) fn write_costs(basis: Basis, bill: u64, statement: &mut [u32])
-    requires { Billed basis bill statement.old }
-    ensures { statement.new ≡ with_costs basis bill statement.old }
-{
-    if basis.units <= 16 {
-        costs_up_to_16(basis, bill, statement);
-        return;
+    if n <= 16 {
+        costs_with_room::<64>(n, bill, statement);
+    } else {
+        costs_with_room::<640>(n, bill, statement);
     }
-    costs_up_to_160(basis, bill, statement);
 }

@@ -1,36 +1,35 @@
 // The divisions of a month.
-ghost use Rattle.std.specs.Prelude.{◌≡◌, ◌-◌, ◌^◌, ◌≤◌, ◌<◌, length, take, replicate};
+ghost use Rattle.std.specs.Prelude.{◌≡◌, ◌-◌, ◌^◌, ◌≤◌, ◌<◌, length, replicate};
 ghost use Rattle.apportion.specs.Shares.{sum, shares};
-ghost use Rattle.sheet.specs.Layout.{sheet_of};
 ghost use Rattle.weights.specs.Inner.By.{weights_by};
-ghost use Rattle.weights.specs.Inner.Ready.{Accepts};
+ghost use Rattle.weights.specs.Inner.Months.{sheet_of_month};
 ghost use Rattle.settlement.specs.Inner.Division.{Divides, Shared};
 ghost use Rattle.settlement.specs.Inner.Heat.{SplitParts};
 
-use weights::Basis;
+use weights::Month;
 use weights::gather::{By, gather};
 
-// The total divided by the first m weights.
-pub fn share(total: u64, m: usize, weights: &[u64], out: &mut [u32])
-    requires m_bound { (m ≤ 160) × (m ≤ length weights.now) × (m ≤ length out.old) }
-    requires divides { Divides total (take m weights.now) × (sum (take m weights.now) < 2 ^ 62) }
-    ensures { take m out.new ≡ shares total (take m weights.now) }
+// The total divided by the weights, of which there are 160 at the most.
+pub fn share(total: u64, weights: &[u64], out: &mut [u32])
+    requires few { (length weights.now ≤ 160) × (length out.old ≡ length weights.now) }
+    requires divides { Divides total weights.now × (sum weights.now < 2 ^ 62) }
+    ensures { out.new ≡ shares total weights.now }
 {
     let mut remainders = [0u64; 160];
-    apportion::apportion(total, &weights[..m], &mut remainders[..m], &mut out[..m]);
+    apportion::apportion(total, weights, &mut remainders[..weights.len()], out);
 }
 
 // The total divided by the weights of the units that take part, at the front of a list that begins as zeros: with nothing to divide it stays.
-pub(crate) fn divide_by(s: &[u8], basis: Basis, by: By, total: u64, out: &mut [u32])
-    requires { Accepts s.now basis × (out.old ≡ replicate 160 0) × Divides total (weights_by basis.rules by (sheet_of s.now)) }
-    ensures { Shared basis.rules total (weights_by basis.rules by (sheet_of s.now)) out.new }
+pub(crate) fn divide_by<'a>(month: &'a Month<'a>, by: By, total: u64, out: &mut [u32; 160])
+    requires { (out.old ≡ replicate 160 0) × Divides total (weights_by month.now.basis.rules by (sheet_of_month month.now)) }
+    ensures { Shared month.now.basis.rules total (weights_by month.now.basis.rules by (sheet_of_month month.now)) out.new }
 {
     if total == 0 {
         return;
     }
     let mut weights = [0u64; 160];
-    let m = gather(s, basis, by, &mut weights);
-    share(total, m, &weights, out);
+    let m = gather(&month.basis, by, &mut weights);
+    share(total, &weights[..m], &mut out[..m]);
 }
 
 // The units' part and the common part.

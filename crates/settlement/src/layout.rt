@@ -3,8 +3,6 @@ ghost use Rattle.std.specs.Prelude.{◌≡◌, ◌+◌, ◌*◌, ◌≤◌, ◌<
 ghost use Rattle.month.specs.Steps.{whole_wh, unit_by_unit};
 ghost use Rattle.settlement.specs.Inner.Numbers.{Put, energy_place, cost_place};
 
-use weights::wide;
-
 fn put_four(to: &mut [u32], at: usize, a: u32, b: u32, c: u32, d: u32)
     requires { (at < 1280) × (at + 4 ≤ length to.old) }
     ensures { to.new ≡ set (set (set (set to.old at a) (at + 1) b) (at + 2) c) (at + 3) d }
@@ -18,14 +16,13 @@ fn put_four(to: &mut [u32], at: usize, a: u32, b: u32, c: u32, d: u32)
 // Each unit's energies: heat, common heat, water, common water.
 pub(crate) fn put_energies(
     n: usize,
-    a: &[u32],
-    b: &[u32],
-    c: &[u32],
-    d: &[u32],
+    a: &[u32; 160],
+    b: &[u32; 160],
+    c: &[u32; 160],
+    d: &[u32; 160],
     statement: &mut [u32],
 )
-    requires n_bound { (n ≤ 160) × (length a.now ≡ 160) × (length b.now ≡ 160) × (length c.now ≡ 160) × (length d.now ≡ 160) }
-    requires statement_len { length statement.old ≡ 8 * n }
+    requires { (n ≤ 160) × (length statement.old ≡ 8 * n) }
     ensures { Put energy_place (4 * n) (λ k. get_or (unit_by_unit whole_wh n a.now b.now c.now d.now) k 0) statement.old statement.new }
 {
     for i in 0..n {
@@ -41,10 +38,10 @@ pub(crate) fn energy_weights(n: usize, statement: &[u32], weights: &mut [u64])
     for i in 0..n {
         let at = 4 * i;
         let from = 8 * i;
-        weights[at] = wide(statement[from]);
-        weights[at + 1] = wide(statement[from + 1]);
-        weights[at + 2] = wide(statement[from + 2]);
-        weights[at + 3] = wide(statement[from + 3]);
+        weights[at] = u64::from(statement[from]);
+        weights[at + 1] = u64::from(statement[from + 1]);
+        weights[at + 2] = u64::from(statement[from + 2]);
+        weights[at + 3] = u64::from(statement[from + 3]);
     }
 }
 

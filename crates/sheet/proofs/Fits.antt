@@ -1,5 +1,5 @@
 -- A sheet that passes 1 to 7 and 20 has what specs/Inner/Fits.antt lists. Assumes nothing.
-use Rattle.std.specs.Prelude.{if◌then◌else◌}
+use Rattle.std.specs.Prelude.{if◌then◌else◌, Ok}
 use mathlib.Core.Path.{◌≡◌, refl, subst}
 use mathlib.Core.Bool.{Bool, true, false, ◌&&◌}
 use mathlib.Core.List.{List, [], ◌∷◌, map}
@@ -11,7 +11,6 @@ use lib.ListN.{length, get_or, take}
 use lib.Seq.{get_or-take}
 use borrow.Author.Tests.{leb-true, leb-false, eqb-true, ne_eqb, not-false}
 use Rattle.sheet.specs.declared.ranges.Range.{Range}
-use Rattle.sheet.specs.declared.refusal.Outcome.TheVariants.{Accepted}
 use Rattle.sheet.specs.Tests.{Each}
 use Rattle.sheet.specs.Layout.{UnitRow, Sheet, sheet_of, water_reading}
 use Rattle.sheet.specs.Check.{entry, ◌to◌, ◌within◌, ◌offset◌, header_tests, header_rule, row_tests, field_rules, row_rules, sheet_rules, checked, base_percent_ranges, common_heat_ranges, unmetered_factor_ranges, common_water_ranges, loss_factor_ranges, first_water_reading_ranges, other_water_reading_ranges, status_ranges, water_class_ranges, reading_ranges, litres_ranges, persons_ranges}
@@ -173,7 +172,7 @@ module _ (s : Sheet) (version : s.version ≡ 1) (t : NoneHolds (map header_rule
       readings first others n b p q w (suc k) h = omega (arith, (others (suc k) (omega arith) h).1, entry-at_most other_water_reading_ranges n b s.water_source q w)
 
 -- ---- 1 to 7 with 20: what an accepted sheet has
-pub fits : (perUnit : ℕ) (bytes : List ℕ) → checked perUnit bytes ≡ Accepted → Fits perUnit bytes
+pub fits : (perUnit : ℕ) (bytes : List ℕ) → checked perUnit bytes ≡ Ok tt → Fits perUnit bytes
 unfolding checked sheet_rules
 fits perUnit bytes e =
     let h = none-holds (sheet_rules perUnit bytes) e in

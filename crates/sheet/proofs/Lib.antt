@@ -1,4 +1,6 @@
 -- Laws that other crates cite, then those of the check's own proofs.
+pub mod Views
+pub mod Inside
 pub mod Passed
 pub mod Rules
 pub mod Units
@@ -8,4 +10,3 @@ mod Fields
 mod Narrow
 mod Walk
 pub mod Places
-pub mod Amounts

@@ -1,16 +1,17 @@
 -- What an accepted check says, as plain facts. Assumes nothing.
-use mathlib.Core.Path.{◌≡◌, refl}
+use lib.Pointwise.{pointwise}
+use mathlib.Core.Path.{◌≡◌, refl, ap}
 use mathlib.Core.Bool.{Bool, true, false, not, ◌&&◌}
 use mathlib.Core.List.{List, [], ◌∷◌, ◌++◌}
 use Prim.Native.Nat.{ℕ}
 use native.Mathlib.Omega.{arith}
-use lib.Dec.{leb}
+use lib.Dec.{leb, eqb}
 use borrow.Author.Tests.{leb-true, le-leb, not-false}
 use Rattle.sheet.specs.declared.ranges.Range.{Range}
-use Rattle.sheet.specs.declared.refusal.Outcome.TheVariants.{Accepted}
+use Rattle.std.specs.Prelude.{Ok}
 use Rattle.sheet.specs.Tests.{any}
 use Rattle.sheet.specs.Refusals.{Rule, ◌⇒◌, first_refusal}
-use Rattle.sheet.specs.Check.{passes, ◌within◌}
+use Rattle.sheet.specs.Check.{passes, ◌within◌, same_list}
 use Rattle.sheet.specs.Inner.Fits.{InRange}
 
 -- ---- no rule's condition holds
@@ -18,13 +19,13 @@ abbrev pub NoneHolds : List Rule → Type 0
 NoneHolds [] = Unit {0}
 NoneHolds ((c ⇒ r) ∷ rules) = (c ≡ false) × NoneHolds rules
 
-pub none-holds : (rules : List Rule) → first_refusal rules ≡ Accepted → NoneHolds rules
+pub none-holds : (rules : List Rule) → first_refusal rules ≡ Ok tt → NoneHolds rules
 unfolding first_refusal
 none-holds [] e = tt
 none-holds ((true ⇒ r) ∷ rules) e = absurd (let z : ◌≡◌ {A = ℕ} 0 1 = cc in omega arith)
 none-holds ((false ⇒ r) ∷ rules) e = (refl, none-holds rules e)
 
-pub holds-none : (rules : List Rule) → NoneHolds rules → first_refusal rules ≡ Accepted
+pub holds-none : (rules : List Rule) → NoneHolds rules → first_refusal rules ≡ Ok tt
 unfolding first_refusal
 holds-none [] h = refl
 holds-none ((c ⇒ r) ∷ rules) h = rw h.0 (holds-none rules h.1)
@@ -62,3 +63,10 @@ module _ (x : ℕ) (r : Range) where
 
   pub of_range : InRange x r → passes (x within r) ≡ true
   of_range h = rw (le-leb r.low x h.0, le-leb x r.high h.1)
+
+-- ---- slices compared, as code does
+pub same_pointwise : (xs ys : List ℕ) → pointwise eqb xs ys ≡ same_list xs ys
+same_pointwise [] [] = refl
+same_pointwise [] (y ∷ ys) = refl
+same_pointwise (x ∷ xs) [] = refl
+same_pointwise (x ∷ xs) (y ∷ ys) = ap (λ (t : Bool). eqb x y && t) (same_pointwise xs ys)

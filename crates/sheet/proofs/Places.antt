@@ -11,7 +11,7 @@ use lib.Dec.{ltb, eqb}
 use Rattle.sheet.specs.Tests.{all}
 use lib.ListN.{length}
 use Rattle.sheet.specs.declared.refusal.Refusal.{Refusal}
-use Rattle.sheet.specs.declared.refusal.Outcome.TheVariants.{Accepted}
+use Rattle.std.specs.Prelude.{Ok}
 use Rattle.sheet.specs.Refusals.{Rule, ◌⇒◌, first_refusal, place_of}
 use Rattle.sheet.specs.Inner.Places.{IfRefused, PlaceBelow, UpTo}
 use Rattle.sheet.specs.Layout.{UnitRow, Sheet, sheet_of}
@@ -40,7 +40,7 @@ module _ (P : Refusal → Type 0) where
   each_first [] h = tt
   each_first ((t ⇒ r) ∷ rules) h = rule_first t r rules h.0 (λ _. each_first rules h.1)
 
-  pub both_first : (xs ys : List Rule) → IfRefused P (first_refusal xs) → (first_refusal xs ≡ Accepted → IfRefused P (first_refusal ys)) → IfRefused P (first_refusal (xs ++ ys))
+  pub both_first : (xs ys : List Rule) → IfRefused P (first_refusal xs) → (first_refusal xs ≡ Ok tt → IfRefused P (first_refusal ys)) → IfRefused P (first_refusal (xs ++ ys))
   unfolding first_refusal
   both_first [] ys h f = f refl
   both_first ((true ⇒ r) ∷ xs) ys h f = h

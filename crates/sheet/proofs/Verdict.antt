@@ -9,7 +9,7 @@ use lib.Dec.{eqb}
 use borrow.Author.Tests.{lt-ltb, le-ltb, eq-eqb, ne_eqb}
 use lib.ListN.{length, length-append}
 use Rattle.sheet.specs.declared.refusal.Refusal.{Refusal}
-use Rattle.sheet.specs.declared.refusal.Outcome.TheVariants.{Accepted, Refused}
+use Rattle.std.specs.Prelude.{Ok, Err}
 use Rattle.sheet.specs.declared.refusal.Refusal.TheVariants.{TooShort, BadMagic, UnsupportedVersion, WrongLength}
 use Rattle.sheet.specs.Refusals.{Rule, ◌⇒◌, first_refusal}
 use Rattle.sheet.specs.Layout.{Sheet, sheet_of}
@@ -18,17 +18,17 @@ use Rattle.sheet.proofs.Rules.{first-refused, first-accepted}
 use Rattle.sheet.proofs.Units.{sheet_append}
 
 module _ (width : ℕ) (bytes : List ℕ) where
-  pub too_short : length bytes < 48 → checked width bytes ≡ Refused TooShort
+  pub too_short : length bytes < 48 → checked width bytes ≡ Err TooShort
   unfolding checked sheet_rules first_refusal
   too_short h = rw (lt-ltb _ _ h)
 
   module _ (long : 48 ≤ length bytes) where
-    pub bad-magic : same_list (sheet_of bytes).magic (72 ∷ 67 ∷ 83 ∷ 0 ∷ []) ≡ false → checked width bytes ≡ Refused BadMagic
+    pub bad-magic : same_list (sheet_of bytes).magic (72 ∷ 67 ∷ 83 ∷ 0 ∷ []) ≡ false → checked width bytes ≡ Err BadMagic
     unfolding checked sheet_rules first_refusal
     bad-magic e = rw (le-ltb _ _ long, e)
 
     module _ (magic : same_list (sheet_of bytes).magic (72 ∷ 67 ∷ 83 ∷ 0 ∷ []) ≡ true) where
-      pub bad-version : ((sheet_of bytes).version ≡ 1 → ⊥) → checked width bytes ≡ Refused UnsupportedVersion
+      pub bad-version : ((sheet_of bytes).version ≡ 1 → ⊥) → checked width bytes ≡ Err UnsupportedVersion
       unfolding checked sheet_rules first_refusal
       bad-version h = rw (le-ltb _ _ long, magic, ne_eqb _ _ h)
 
@@ -43,11 +43,11 @@ module _ (width : ℕ) (bytes : List ℕ) where
         unfolding checked sheet_rules first_refusal
         to-header = rw (le-ltb _ _ long, magic, eq-eqb _ _ version)
 
-        pub bad-header : {r : Refusal} → first_refusal header_rules ≡ Refused r → checked width bytes ≡ Refused r
+        pub bad-header : {r : Refusal} → first_refusal header_rules ≡ Err r → checked width bytes ≡ Err r
         bad-header e = to-header ∙ first-refused header_rules behind e
 
-        module _ (header : first_refusal header_rules ≡ Accepted) where
-          pub bad-length : (length bytes ≡ 48 + width * (sheet_of bytes).unit_count → ⊥) → checked width bytes ≡ Refused WrongLength
+        module _ (header : first_refusal header_rules ≡ Ok tt) where
+          pub bad-length : (length bytes ≡ 48 + width * (sheet_of bytes).unit_count → ⊥) → checked width bytes ≡ Err WrongLength
           unfolding first_refusal
           bad-length h = to-header ∙ first-accepted header_rules behind header ∙ rw (ne_eqb _ _ h)
 

@@ -2,9 +2,8 @@
 use Rattle.std.specs.Prelude.{Bool, true, false, not, ◌&&◌, List, [], ◌∷◌, ◌++◌, map, ℕ, ◌+◌, ◌*◌, ltb, leb, eqb, length, get_or, if◌then◌else◌}
 use Rattle.std.proofs.Math.Option.{Option, none, some}
 use Rattle.sheet.specs.declared.ranges.Range.{Range}
-use Rattle.sheet.specs.declared.refusal.Outcome.{Outcome}
+use Rattle.sheet.specs.Refusals.{Outcome, Rule, ◌⇒◌, first_refusal}
 use Rattle.sheet.specs.declared.refusal.Refusal.TheVariants.{TooShort, BadMagic, UnsupportedVersion, HeaderField, WrongLength, RowField, IdOrder, FieldConflict}
-use Rattle.sheet.specs.Refusals.{Rule, ◌⇒◌, first_refusal}
 use Rattle.sheet.specs.Layout.{UnitRow, Sheet, sheet_of, water_reading}
 
 -- ---- ranges: a lowest and a highest

@@ -3,4 +3,4 @@ pub mod Fields
 pub mod FieldRanges
 pub mod Fits
 pub mod Places
-pub mod Sums
+pub mod Views

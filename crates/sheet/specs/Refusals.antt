@@ -1,11 +1,9 @@
 -- Refusals: their numbers, their places and their order (document 01, "Refused sheets and calls", and document 02).
-use Rattle.std.specs.Prelude.{Bool, true, false, List, [], ◌∷◌, ℕ}
+use Rattle.std.specs.Prelude.{Bool, true, false, List, [], ◌∷◌, ℕ, Result, Ok, Err}
 use Rattle.sheet.specs.declared.refusal.Refusal.{Refusal}
 use Rattle.sheet.specs.declared.refusal.Refusal.TheVariants.{TooShort, BadMagic, UnsupportedVersion, HeaderField, WrongLength, RowField, IdOrder}
 use Rattle.sheet.specs.declared.refusal.Refusal.TheVariants.{HotWaterExceedsMeter, ZeroDivisor, NoReadings, MetersExceedHeat, UnmeteredExceedsHeat}
 use Rattle.sheet.specs.declared.refusal.Refusal.TheVariants.{BufferLength, BadArchive, BadYearBook, OtherBuilding, MonthState, NoSuchUnit, BadYearSums, FieldConflict, NegativeCommonHeat, BadGroup}
-use Rattle.sheet.specs.declared.refusal.Outcome.{Outcome}
-use Rattle.sheet.specs.declared.refusal.Outcome.TheVariants.{Accepted, Refused}
 
 -- the document's number, with the trade's word. Wherever 1 to 7 or 1 to 12 is named, 20 goes along with 6 (2026-03).
 abbrev pub number_of : Refusal → ℕ
@@ -62,13 +60,22 @@ infix 20 ◌⇒◌
 pub data Rule : Type 0 where
   ◌⇒◌ : Bool → Refusal → Rule
 
+-- What a call answers: `Ok` when it is accepted, else the refusal.
+abbrev pub Outcome : Type 0
+Outcome = Result (Unit {0}) Refusal
+
+-- an answer without the value that it may bring
+abbrev pub outcome_of : {A : Type 0} → Result A Refusal → Outcome
+outcome_of (Ok x) = Ok tt
+outcome_of (Err r) = Err r
+
 -- Of a list of rules the first whose condition holds decides.
 unfoldable pub first_refusal : List Rule → Outcome
-first_refusal [] = Accepted
-first_refusal ((true ⇒ r) ∷ rules) = Refused r
+first_refusal [] = Ok tt
+first_refusal ((true ⇒ r) ∷ rules) = Err r
 first_refusal ((false ⇒ r) ∷ rules) = first_refusal rules
 
 -- what an answer leaves: a refused call keeps what it was lent
 abbrev pub afterwards : {A : Type 0} → Outcome → (before written : A) → A
-afterwards Accepted before written = written
-afterwards (Refused r) before written = before
+afterwards (Ok tt) before written = written
+afterwards (Err r) before written = before

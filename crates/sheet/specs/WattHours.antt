@@ -1,8 +1,6 @@
--- Amounts of Wh (document 01, "Dividing"): a zero, an upper end, and an addition that answers `over` past it, without an amount.
-use Rattle.std.specs.Prelude.{ℕ, ◌+◌, leb, if◌then◌else◌}
+-- Amounts of Wh (document 01, "Dividing"): a zero, an upper end, and an addition that answers `over`, nothing, past it, without an amount.
+use Rattle.std.specs.Prelude.{ℕ, ◌+◌, leb, Option, Some, None, if◌then◌else◌}
 use Rattle.sheet.specs.declared.watt_hours.Wh.{Wh}
-use Rattle.sheet.specs.declared.watt_hours.Sum.{Sum}
-use Rattle.sheet.specs.declared.watt_hours.Sum.TheVariants.{Amount, Over}
 
 abbrev pub highest_wh : ℕ
 highest_wh = 4000000000
@@ -11,8 +9,8 @@ highest_wh = 4000000000
 abbrev pub wh_in : Wh → ℕ
 wh_in a = a.0
 
-abbrev pub amount_of : ℕ → Sum
-amount_of x = if leb x highest_wh then Amount (record { 0 = x }) else Over
+abbrev pub amount_of : ℕ → Option Wh
+amount_of x = if leb x highest_wh then Some (record { 0 = x }) else None
 
-abbrev pub plus_wh : ℕ → ℕ → Sum
+abbrev pub plus_wh : ℕ → ℕ → Option Wh
 plus_wh a b = amount_of (a + b)

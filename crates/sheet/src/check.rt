@@ -7,30 +7,11 @@ ghost use Rattle.sheet.specs.Inner.Fields.{unit_of, id_before};
 ghost use Rattle.sheet.specs.Check.{checked, row_rules, not_above, same_list, sheet_magic};
 
 use crate::header::header_field;
-use crate::refusal::{Outcome, Refusal};
-use crate::rows::unit_field;
-use crate::{bytes, header, ranges, rows};
+use crate::refusal::Refusal;
+use crate::rows::{FIELDS, Field, unit_field};
+use crate::{bytes, header, ranges};
 
-// 2: `HCS` and a zero.
-#[tactic(auto, using(crate::proofs::Fields::four_bytes))]
-fn magic_fits(s: &[u8]) -> bool
-    requires { 4 ≤ length s.now }
-    ensures { result ≡ same_list (take 4 s.now) sheet_magic }
-{
-    if s[0] != 72 {
-        return false;
-    }
-    if s[1] != 67 {
-        return false;
-    }
-    if s[2] != 83 {
-        return false;
-    }
-    if s[3] != 0 {
-        return false;
-    }
-    true
-}
+const MAGIC: [u8; 4] = *b"HCS\0";
 
 // 7: the first id has none before it.
 fn not_above(s: &[u8], i: usize) -> bool
@@ -40,28 +21,27 @@ fn not_above(s: &[u8], i: usize) -> bool
     if i == 0 {
         return false;
     }
-    unit_field(s, i, rows::ID) <= unit_field(s, i - 1, rows::ID)
+    unit_field(s, i, Field::Id) <= unit_field(s, i - 1, Field::Id)
 }
 
 // 6, 20 and 7: rows, and in a row its fields, in layout order, left at the first fault.
-fn check_rows(s: &[u8], n: usize) -> Outcome
+fn check_rows(s: &[u8], n: usize) -> Result<(), Refusal>
     requires { (n ≡ (sheet_of s.now).unit_count) × ((n ≤ 160) × (48 + 32 * n ≤ length s.now)) }
     ensures { result ≡ first_refusal (row_rules (sheet_of s.now) 0 none (sheet_of s.now).units) }
 {
     let limits = ranges::row_limits(s);
-    let mut found = Outcome::Accepted;
+    let mut found = Ok(());
     'rows: for i in 0..n {
         let ranges = ranges::row_ranges(s, i, limits);
-        for k in 0..10usize {
-            let range = ranges[k];
-            let x = unit_field(s, i, k + rows::STATUS);
-            if !ranges::within(x, range) {
-                found = Outcome::Refused(ranges::field_refusal(x, k, i as u32));
+        for (k, &field) in FIELDS.iter().enumerate() {
+            let x = unit_field(s, i, field);
+            if !ranges[k].contains(x) {
+                found = Err(ranges::field_refusal(x, k, i as u32));
                 break 'rows;
             }
         }
         if not_above(s, i) {
-            found = Outcome::Refused(Refusal::IdOrder(i as u32));
+            found = Err(Refusal::IdOrder(i as u32));
             break 'rows;
         }
     }
@@ -69,39 +49,36 @@ fn check_rows(s: &[u8], n: usize) -> Outcome
 }
 
 // Where a unit takes `width` bytes after the header.
-fn check(s: &[u8], width: usize) -> Outcome
+fn check(s: &[u8], width: usize) -> Result<(), Refusal>
     requires { (32 ≤ width) × (width ≤ 64) }
     ensures { result ≡ checked width s.now }
 {
     if s.len() < 48 {
-        return Outcome::Refused(Refusal::TooShort);
+        return Err(Refusal::TooShort);
     }
-    if !magic_fits(s) {
-        return Outcome::Refused(Refusal::BadMagic);
+    if s[..4] != MAGIC[..] {
+        return Err(Refusal::BadMagic);
     }
     if bytes::read16(s, 4) != 1 {
-        return Outcome::Refused(Refusal::UnsupportedVersion);
+        return Err(Refusal::UnsupportedVersion);
     }
-    let outcome = header::check_header(s);
-    let Outcome::Accepted = outcome else {
-        return outcome;
-    };
-    let n = header_field(s, header::UNIT_COUNT) as usize;
+    header::check_header(s)?;
+    let n = header_field(s, header::Field::UnitCount) as usize;
     if s.len() != 48 + width * n {
-        return Outcome::Refused(Refusal::WrongLength);
+        return Err(Refusal::WrongLength);
     }
     check_rows(s, n)
 }
 
 // A sheet alone.
-pub fn check_sheet(s: &[u8]) -> Outcome
+pub(crate) fn check_sheet(s: &[u8]) -> Result<(), Refusal>
     ensures { result ≡ checked 32 s.now }
 {
     check(s, 32)
 }
 
 // A sheet and its statement, as an archive record holds them: 32 bytes more a unit.
-pub fn check_record_part(s: &[u8]) -> Outcome
+pub(crate) fn check_record_part(s: &[u8]) -> Result<(), Refusal>
     ensures { result ≡ checked 64 s.now }
 {
     check(s, 64)

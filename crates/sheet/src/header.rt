@@ -1,78 +1,114 @@
-// The header (document 01, "The sheet"): its fields after the version, numbered in layout order.
-ghost use Rattle.std.specs.Prelude.{◌≡◌, map, ◌≤◌, ◌<◌, length};
+// The header (document 01, "The sheet"): its fields after the version.
+ghost use Rattle.std.specs.Prelude.{◌≡◌, map, ◌≤◌, length};
 ghost use Rattle.sheet.specs.Refusals.{first_refusal};
 ghost use Rattle.sheet.specs.Layout.{sheet_of};
 ghost use Rattle.sheet.specs.Check.{header_tests, header_rule};
 ghost use Rattle.sheet.specs.Inner.Fields.{header_field};
 ghost use Rattle.sheet.specs.Inner.FieldRanges.{header_offset};
 
-use crate::refusal::{Outcome, Refusal};
-use crate::{bytes, ranges};
+use crate::bytes::{read8, read16, read32};
+use crate::ranges;
+use crate::refusal::Refusal;
 
-pub const MONTH: usize = 0;
-
-pub const MODEL: usize = 1;
-
-pub const UNIT_COUNT: usize = 2;
-
-pub const WATER_SOURCE: usize = 3;
-
-pub const BASE_PERCENT: usize = 4;
-
-pub const COMMON_HEAT_PERCENT: usize = 5;
-
-pub const COMMON_WATER_PERCENT: usize = 6;
-
-pub const UNMETERED_FACTOR: usize = 7;
-
-pub const LOSS_FACTOR: usize = 8;
-
-pub const SHARED_METER: usize = 9;
-
-pub const PRICE: usize = 10;
-
-// h1; h2 to h6 follow.
-pub const WATER_READING: usize = 11;
-
-// The first byte of field k in the sheet.
-fn offset(k: usize) -> usize
-    requires { k < 17 }
-    ensures { result ≡ header_offset k }
-{
-    if k <= UNIT_COUNT {
-        return 6 + k;
-    }
-    if k < SHARED_METER {
-        return 7 + k;
-    }
-    4 * k - 20
+// In layout order.
+#[derive(Clone, Copy)]
+pub enum Field {
+    Month,
+    Model,
+    UnitCount,
+    WaterSource,
+    BasePercent,
+    CommonHeatPercent,
+    CommonWaterPercent,
+    UnmeteredFactor,
+    LossFactor,
+    SharedMeter,
+    Price,
+    WaterReading1,
+    WaterReading2,
+    WaterReading3,
+    WaterReading4,
+    WaterReading5,
+    WaterReading6,
 }
 
-pub fn header_field(s: &[u8], k: usize) -> u32
-    requires { (48 ≤ length s.now) × (k < 17) }
-    ensures { result ≡ header_field (sheet_of s.now) k }
+pub(crate) const FIELDS: [Field; 17] = [
+    Field::Month,
+    Field::Model,
+    Field::UnitCount,
+    Field::WaterSource,
+    Field::BasePercent,
+    Field::CommonHeatPercent,
+    Field::CommonWaterPercent,
+    Field::UnmeteredFactor,
+    Field::LossFactor,
+    Field::SharedMeter,
+    Field::Price,
+    Field::WaterReading1,
+    Field::WaterReading2,
+    Field::WaterReading3,
+    Field::WaterReading4,
+    Field::WaterReading5,
+    Field::WaterReading6,
+];
+
+impl Field {
+    // The first byte in the sheet.
+    fn offset(self) -> usize
+        ensures { (result ≡ header_offset self) × (result ≤ 44) }
+    {
+        match self {
+            Field::Month => 6,
+            Field::Model => 7,
+            Field::UnitCount => 8,
+            Field::WaterSource => 10,
+            Field::BasePercent => 11,
+            Field::CommonHeatPercent => 12,
+            Field::CommonWaterPercent => 13,
+            Field::UnmeteredFactor => 14,
+            Field::LossFactor => 15,
+            Field::SharedMeter => 16,
+            Field::Price => 20,
+            Field::WaterReading1 => 24,
+            Field::WaterReading2 => 28,
+            Field::WaterReading3 => 32,
+            Field::WaterReading4 => 36,
+            Field::WaterReading5 => 40,
+            Field::WaterReading6 => 44,
+        }
+    }
+}
+
+#[tactic(auto, unfolding(crate::specs::Layout::sheet_of))]
+pub fn header_field(s: &[u8], field: Field) -> u32
+    requires { 48 ≤ length s.now }
+    ensures { result ≡ header_field (sheet_of s.now) field }
 {
-    let at = offset(k);
-    if k == UNIT_COUNT {
-        return bytes::read16(s, at);
+    let at = field.offset();
+    match field {
+        Field::UnitCount => read16(s, at),
+        Field::SharedMeter
+        | Field::Price
+        | Field::WaterReading1
+        | Field::WaterReading2
+        | Field::WaterReading3
+        | Field::WaterReading4
+        | Field::WaterReading5
+        | Field::WaterReading6 => read32(s, at),
+        _ => read8(s, at),
     }
-    if k < SHARED_METER {
-        return bytes::read8(s, at);
-    }
-    bytes::read32(s, at)
 }
 
 // 4: the first field that isn't within its range.
-pub(crate) fn check_header(s: &[u8]) -> Outcome
+pub(crate) fn check_header(s: &[u8]) -> Result<(), Refusal>
     requires { 48 ≤ length s.now }
     ensures { result ≡ first_refusal (map header_rule (header_tests (sheet_of s.now))) }
 {
     let ranges = ranges::header_ranges(s);
-    for k in 0..17usize {
-        let range = ranges[k];
-        if !ranges::within(header_field(s, k), range) {
-            return Outcome::Refused(Refusal::HeaderField(offset(k) as u32));
+    for (k, &field) in FIELDS.iter().enumerate() {
+        if !ranges[k].contains(header_field(s, field)) {
+            return Err(Refusal::HeaderField(field.offset() as u32));
         }
     }
-    Outcome::Accepted
+    Ok(())
 }

@@ -3,16 +3,19 @@
 
 pub mod bytes;
 mod check;
+mod codes;
 pub mod header;
 mod ranges;
 mod refusal;
 pub mod rows;
 mod rule_set;
 mod tables;
+mod view;
 mod watt_hours;
 
-pub use check::{check_record_part, check_sheet};
+pub use codes::{Model, Status, UnknownCode, WaterClass, WaterSource};
 pub use ranges::Range;
-pub use refusal::{Outcome, Refusal, number, place};
+pub use refusal::Refusal;
 pub use rule_set::{NEWEST, RuleSet, limits_risers};
-pub use watt_hours::{Sum, Wh};
+pub use view::{RowView, Sheet};
+pub use watt_hours::Wh;

@@ -16,43 +16,19 @@ pub struct Range {
     pub high: u32,
 }
 
-pub fn within(x: u32, r: Range) -> bool
-    ensures { result ≡ passes (x within r) }
-{
-    if x < r.low {
-        return false;
-    }
-    x <= r.high
-}
-
-fn by_model(table: [Range; 6], model: u32) -> Range
-    ensures { result ≡ entry table model }
-{
-    if model < 6 {
-        table[model as usize]
-    } else {
-        tables::ZERO
+impl Range {
+    pub fn contains(self, x: u32) -> bool
+        ensures { result ≡ passes (x within self) }
+    {
+        self.low <= x && x <= self.high
     }
 }
 
-fn by_source(table: [Range; 4], source: u32) -> Range
-    ensures { result ≡ entry table source }
+// Entry `code` of a table.
+fn entry(table: &[Range], code: u32) -> Range
+    ensures { result ≡ entry table.now code }
 {
-    if source < 4 {
-        table[source as usize]
-    } else {
-        tables::ZERO
-    }
-}
-
-fn by_class(table: [Range; 3], class: u32) -> Range
-    ensures { result ≡ entry table class }
-{
-    if class < 3 {
-        table[class as usize]
-    } else {
-        tables::ZERO
-    }
+    table.get(code as usize).copied().unwrap_or(tables::ZERO)
 }
 
 // The header's fields, in layout order.
@@ -60,25 +36,25 @@ pub fn header_ranges(s: &[u8]) -> [Range; 17]
     requires { 48 ≤ length s.now }
     ensures { result ≡ map header_range (header_tests (sheet_of s.now)) }
 {
-    let model = header_field(s, header::MODEL);
-    let source = header_field(s, header::WATER_SOURCE);
-    let other = by_source(tables::OTHER_WATER_READING, source);
+    let model = header_field(s, header::Field::Model);
+    let source = header_field(s, header::Field::WaterSource);
+    let other = entry(&tables::OTHER_WATER_READING, source);
     [
         Range { low: 1, high: 12 },
         Range { low: 1, high: 5 },
         Range { low: 1, high: 160 },
         Range { low: 0, high: 3 },
-        by_model(tables::BASE_PERCENT, model),
-        by_model(tables::COMMON_HEAT_PERCENT, model),
-        by_source(tables::COMMON_WATER_PERCENT, source),
-        by_model(tables::UNMETERED_FACTOR, model),
-        by_source(tables::LOSS_FACTOR, source),
+        entry(&tables::BASE_PERCENT, model),
+        entry(&tables::COMMON_HEAT_PERCENT, model),
+        entry(&tables::COMMON_WATER_PERCENT, source),
+        entry(&tables::UNMETERED_FACTOR, model),
+        entry(&tables::LOSS_FACTOR, source),
         tables::ANY_WH,
         Range {
             low: 0,
             high: 100_000,
         },
-        by_source(tables::FIRST_WATER_READING, source),
+        entry(&tables::FIRST_WATER_READING, source),
         other,
         other,
         other,
@@ -99,12 +75,12 @@ pub fn row_limits(s: &[u8]) -> RowLimits
     requires { 48 ≤ length s.now }
     ensures { LimitsOf (sheet_of s.now) result }
 {
-    let model = header_field(s, header::MODEL);
-    let source = header_field(s, header::WATER_SOURCE);
+    let model = header_field(s, header::Field::Model);
+    let source = header_field(s, header::Field::WaterSource);
     RowLimits {
-        status: by_model(tables::STATUS, model),
-        class: by_source(tables::WATER_CLASS, source),
-        reading: by_model(tables::READING, model),
+        status: entry(&tables::STATUS, model),
+        class: entry(&tables::WATER_CLASS, source),
+        reading: entry(&tables::READING, model),
     }
 }
 
@@ -120,8 +96,8 @@ pub fn row_ranges(s: &[u8], i: usize, limits: RowLimits) -> [Range; 10]
     requires { (i < (sheet_of s.now).unit_count) × (80 + 32 * i ≤ length s.now) × LimitsOf (sheet_of s.now) limits }
     ensures { result ≡ map allowed (row_tests (sheet_of s.now) (unit_of (sheet_of s.now) i)) }
 {
-    let status = unit_field(s, i, rows::STATUS);
-    let class = unit_field(s, i, rows::WATER_CLASS);
+    let status = unit_field(s, i, rows::Field::Status);
+    let class = unit_field(s, i, rows::Field::WaterClass);
     let statuses = limits.status;
     let classes = limits.class;
     let readings = limits.reading;
@@ -133,8 +109,8 @@ pub fn row_ranges(s: &[u8], i: usize, limits: RowLimits) -> [Range; 10]
         tables::RISER_SURFACE,
         tables::HEAT_LOAD,
         if_read(status, readings),
-        by_class(tables::LITRES, class),
-        by_class(tables::PERSONS, class),
+        entry(&tables::LITRES, class),
+        entry(&tables::PERSONS, class),
         tables::ZERO,
     ]
 }
@@ -145,8 +121,7 @@ pub fn field_refusal(x: u32, k: usize, row: u32) -> Refusal
     ensures { result ≡ refusal_by (passes (x within entry row_ranges k)) row }
 {
     let table = tables::ROW_FIELDS;
-    let range = table[k];
-    if within(x, range) {
+    if table[k].contains(x) {
         Refusal::FieldConflict(row)
     } else {
         Refusal::RowField(row)

@@ -28,53 +28,46 @@ pub enum Refusal {
     BadGroup,
 }
 
-#[derive(Clone, Copy)]
-pub enum Outcome {
-    Accepted,
-    Refused(Refusal),
-}
-
-// What a refusal tells: the document's number; the row from 0 for 6, 7 and 20, what 4 holds, else 0.
-#[derive(Clone, Copy)]
-struct Told(u32, u32);
-
-fn told_by(r: Refusal) -> Told
-    ensures { (result.0 ≡ number_of r) × (result.1 ≡ place_of r) }
-{
-    match r {
-        Refusal::TooShort => Told(1, 0),
-        Refusal::BadMagic => Told(2, 0),
-        Refusal::UnsupportedVersion => Told(3, 0),
-        Refusal::HeaderField(k) => Told(4, k),
-        Refusal::WrongLength => Told(5, 0),
-        Refusal::RowField(i) => Told(6, i),
-        Refusal::IdOrder(i) => Told(7, i),
-        Refusal::HotWaterExceedsMeter => Told(8, 0),
-        Refusal::ZeroDivisor => Told(9, 0),
-        Refusal::NoReadings => Told(10, 0),
-        Refusal::MetersExceedHeat => Told(11, 0),
-        Refusal::UnmeteredExceedsHeat => Told(12, 0),
-        Refusal::BufferLength => Told(13, 0),
-        Refusal::BadArchive => Told(14, 0),
-        Refusal::BadYearBook => Told(15, 0),
-        Refusal::OtherBuilding => Told(16, 0),
-        Refusal::MonthState => Told(17, 0),
-        Refusal::NoSuchUnit => Told(18, 0),
-        Refusal::BadYearSums => Told(19, 0),
-        Refusal::FieldConflict(i) => Told(20, i),
-        Refusal::NegativeCommonHeat => Told(21, 0),
-        Refusal::BadGroup => Told(22, 0),
+impl Refusal {
+    // What a refusal tells: the document's number; the row from 0 for 6, 7 and 20, what 4 holds, else 0.
+    fn told(self) -> (u32, u32)
+        ensures { (result.0 ≡ number_of self) × (result.1 ≡ place_of self) }
+    {
+        match self {
+            Refusal::TooShort => (1, 0),
+            Refusal::BadMagic => (2, 0),
+            Refusal::UnsupportedVersion => (3, 0),
+            Refusal::HeaderField(k) => (4, k),
+            Refusal::WrongLength => (5, 0),
+            Refusal::RowField(i) => (6, i),
+            Refusal::IdOrder(i) => (7, i),
+            Refusal::HotWaterExceedsMeter => (8, 0),
+            Refusal::ZeroDivisor => (9, 0),
+            Refusal::NoReadings => (10, 0),
+            Refusal::MetersExceedHeat => (11, 0),
+            Refusal::UnmeteredExceedsHeat => (12, 0),
+            Refusal::BufferLength => (13, 0),
+            Refusal::BadArchive => (14, 0),
+            Refusal::BadYearBook => (15, 0),
+            Refusal::OtherBuilding => (16, 0),
+            Refusal::MonthState => (17, 0),
+            Refusal::NoSuchUnit => (18, 0),
+            Refusal::BadYearSums => (19, 0),
+            Refusal::FieldConflict(i) => (20, i),
+            Refusal::NegativeCommonHeat => (21, 0),
+            Refusal::BadGroup => (22, 0),
+        }
     }
-}
 
-pub fn number(r: Refusal) -> u32
-    ensures { result ≡ number_of r }
-{
-    told_by(r).0
-}
+    pub fn number(self) -> u32
+        ensures { result ≡ number_of self }
+    {
+        self.told().0
+    }
 
-pub fn place(r: Refusal) -> u32
-    ensures { result ≡ place_of r }
-{
-    told_by(r).1
+    pub fn place(self) -> u32
+        ensures { result ≡ place_of self }
+    {
+        self.told().1
+    }
 }

@@ -4,24 +4,30 @@
 
 use std::io;
 
-fn print_record(rt: &impl Print, bytes: &[u8]) -> io::Result<()> {
-    console::answer(rt, archive::check(bytes))?;
-    let part = archive::sheet_of(bytes);
+const RECORD: usize = 248;
+
+const ALL: usize = 3 * RECORD;
+
+fn print_record(rt: &impl Print, record: &[u8]) -> io::Result<()> {
+    console::answer(rt, archive::check(record))?;
+    let part = archive::sheet_of(record);
     console::word(rt, part.len() as u64)?;
     console::newline(rt)
 }
 
+// Nothing where the input is shorter or longer than the three.
 fn print_records(rt: &impl Print, bytes: &[u8]) -> io::Result<()> {
-    if bytes.len() != 744 {
+    if bytes.len() != ALL {
         return Ok(());
     }
-    print_record(rt, &bytes[0..248])?;
-    print_record(rt, &bytes[248..496])?;
-    print_record(rt, &bytes[496..])
+    for record in bytes.chunks_exact(RECORD) {
+        print_record(rt, record)?;
+    }
+    Ok(())
 }
 
 fn main(rt: HostRuntime) -> io::Result<()> {
-    let mut buffer = [0u8; 745];
+    let mut buffer = [0u8; ALL + 1];
     let n = console::read_full(&rt, &mut buffer)?;
     print_records(&rt, &buffer[..n])
 }

@@ -1,4 +1,4 @@
--- Rows that are ready to be read, and one unit more in lists that a loop over the rows writes. Assumes nothing.
+-- One unit more in lists that a loop over the rows writes. Assumes nothing.
 use Rattle.std.specs.Prelude.{if◌then◌else◌}
 use mathlib.Core.Path.{◌≡◌, refl, sym, ap, ◌∙◌}
 use mathlib.Core.Logic.{inl, inr}
@@ -13,19 +13,13 @@ use lib.Seq.{take-set-le, take-suc-set}
 use Rattle.apportion.specs.Shares.{bit}
 use lib.Dec.{eqb}
 use borrow.Author.Tests.{eqb-false}
-use Rattle.sheet.specs.Layout.{UnitRow, Sheet, unit_row, sheet_of}
+use Rattle.sheet.specs.Layout.{UnitRow, Sheet, sheet_of}
 use Rattle.sheet.specs.Inner.Fields.{unit_of}
 use Rattle.sheet.specs.Inner.Fits.{UnitFits}
-use Rattle.sheet.proofs.Fits.{each_at}
 use Rattle.sheet.proofs.Units.{units-next}
 use Rattle.month.specs.Weights.{those, is_read, common_water_weight}
 use Rattle.month.proofs.Lists.{decided}
-use Rattle.weights.specs.Inner.Ready.{RowReady}
 use Rattle.weights.specs.Inner.Totals.{only_if}
-
--- ---- a row's fields are in range
-pub unit-fits : {bytes : List ℕ} {i : ℕ} → RowReady bytes i → UnitFits (sheet_of bytes) (unit_of (sheet_of bytes) i)
-unit-fits {bytes} {i} r = each_at (UnitFits (sheet_of bytes)) (sheet_of bytes).units i (unit_row []) r.fits.units (omega (arith, r.inside, r.fits.units_length))
 
 -- ---- products
 pub two_le : {a b x y : ℕ} → a ≤ x → b ≤ y → a * b ≤ x * y

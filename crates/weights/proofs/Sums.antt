@@ -14,7 +14,7 @@ use Rattle.month.specs.Weights.{those, sum_of, is_read, unread_weight, total_are
 use Rattle.month.proofs.Lists.{decided, sum_append}
 use Rattle.month.proofs.Accepted.{sum-those}
 use Rattle.month.proofs.Bounds.{sum-at_most, three_le}
-use Rattle.weights.specs.Inner.Totals.{only_if, of_unit, plus_totals, TotalsOf, Within}
+use Rattle.weights.specs.Inner.Totals.{only_if, of_unit, plus_totals, totals_in, Within}
 use Rattle.weights.specs.declared.totals.Totals.{Totals}
 use Rattle.weights.proofs.Rows.{map_append}
 
@@ -101,7 +101,7 @@ module _ (s : Sheet) (us : List UnitRow) (f : s.unmetered_factor ≤ 35) (h : Ea
     readings = at_most (λ u. (of_unit s u).readings) 25000000 (λ u k. (unit-within s u f k).readings) e.readings;
   }
 
-  impulses-within : s.model ≤ 4 → {x : ℕ} → x ≡ sum_of (λ u. (of_unit s u).readings) us → x ≤ 8000000
+  pub impulses-within : s.model ≤ 4 → {x : ℕ} → x ≡ sum_of (λ u. (of_unit s u).readings) us → x ≤ 8000000
   impulses-within m e = at_most (λ u. (of_unit s u).readings) 50000 (λ u k. only_le (is_read u) (k.impulses m)) e
 
 -- ---- document 01's sums
@@ -109,20 +109,38 @@ count-those : (p : UnitRow → Bool) (us : List UnitRow) → length (those p us)
 count-those p [] = refl
 count-those p (u ∷ us) = elim (decided (p u)) [ inl e ↦ rw e (omega (arith, count-those p us)) | inr e ↦ rw e (omega (arith, count-those p us)) ]
 
-pub totals_of : (s : Sheet) (t : Totals) → s.unmetered_factor ≤ 35 → Each (UnitFits s) s.units → length s.units ≤ 160 → Sums s s.units t → TotalsOf s t
-unfolding total_area units_of_class litres_of_class1 persons_of_class2 unread_weights read_area read_surface reading_sum
-totals_of s t f each few h = record {
-  area = h.area;
-  load = h.load;
-  class1 = h.class1 ∙ sym (count-those (λ u. eqb u.water_class 1) s.units);
-  class2 = h.class2 ∙ sym (count-those (λ u. eqb u.water_class 2) s.units);
-  litres = h.litres ∙ sym (sum-those (λ u. eqb u.water_class 1) (λ u. u.litres) s.units);
-  persons2 = h.persons2 ∙ sym (sum-those (λ u. eqb u.water_class 2) (λ u. u.persons) s.units);
-  persons = h.persons;
-  unread = h.unread ∙ sym (sum-those (λ u. not (is_read u)) (unread_weight s) s.units);
-  read = h.read ∙ sym (count-those is_read s.units);
-  readarea = h.readarea ∙ sym (sum-those is_read (λ u. u.heated_area) s.units);
-  surface = h.surface ∙ sym (sum-those is_read (λ u. u.riser_surface) s.units);
-  readings = h.readings ∙ sym (sum-those is_read (λ u. u.reading) s.units);
-  impulses = λ m. impulses-within s s.units f each few m h.readings;
-}
+module _ (s : Sheet) where
+  pub sums_are : Sums s s.units (totals_in s)
+  unfolding total_area units_of_class litres_of_class1 persons_of_class2 unread_weights read_area read_surface reading_sum
+  sums_are = record {
+    area = refl;
+    load = refl;
+    class1 = count-those (λ u. eqb u.water_class 1) s.units;
+    class2 = count-those (λ u. eqb u.water_class 2) s.units;
+    litres = sum-those (λ u. eqb u.water_class 1) (λ u. u.litres) s.units;
+    persons2 = sum-those (λ u. eqb u.water_class 2) (λ u. u.persons) s.units;
+    persons = refl;
+    unread = sum-those (λ u. not (is_read u)) (unread_weight s) s.units;
+    read = count-those is_read s.units;
+    readarea = sum-those is_read (λ u. u.heated_area) s.units;
+    surface = sum-those is_read (λ u. u.riser_surface) s.units;
+    readings = sum-those is_read (λ u. u.reading) s.units;
+  }
+
+  pub totals_are : (t : Totals) → Sums s s.units t → t ≡ totals_in s
+  totals_are t h =
+      let k = sums_are in
+      λ i. record {
+        area = (h.area ∙ sym k.area) i;
+        load = (h.load ∙ sym k.load) i;
+        class1 = (h.class1 ∙ sym k.class1) i;
+        class2 = (h.class2 ∙ sym k.class2) i;
+        litres = (h.litres ∙ sym k.litres) i;
+        persons2 = (h.persons2 ∙ sym k.persons2) i;
+        persons = (h.persons ∙ sym k.persons) i;
+        unread = (h.unread ∙ sym k.unread) i;
+        read = (h.read ∙ sym k.read) i;
+        readarea = (h.readarea ∙ sym k.readarea) i;
+        surface = (h.surface ∙ sym k.surface) i;
+        readings = (h.readings ∙ sym k.readings) i;
+      }

@@ -1,11 +1,53 @@
-// What a month is settled by.
-use crate::totals::Totals;
-use sheet::RuleSet;
+// What a month is settled by, and a unit as its weights are taken.
+ghost use Rattle.std.specs.Prelude.{◌≡◌};
+ghost use Rattle.std.specs.Coded.{Coded-set};
+ghost use Rattle.sheet.specs.Layout.{sheet_of};
+ghost use Rattle.weights.specs.Inner.Totals.{totals_in};
 
-// The rules, the number of units and the sums over them.
+use crate::totals::Totals;
+use sheet::{RowView, RuleSet, Sheet};
+
+// The rules, the sheet and the sums over its units.
 #[derive(Clone, Copy)]
-pub struct Basis {
+pub struct Basis<'a> {
     pub rules: RuleSet,
-    pub units: usize,
+    pub sheet: Sheet<'a>,
     pub totals: Totals,
+    pub ghost summed: { totals ≡ totals_in (sheet_of sheet.bytes.now) } by { Coded-set totals-code totals (totals_in (sheet_of sheet.bytes.now)) },
+}
+
+// A unit's row beside what its sheet is settled by.
+#[derive(Clone, Copy)]
+pub struct Unit<'a> {
+    pub basis: &'a Basis<'a>,
+    pub row: RowView<'a>,
+    pub ghost same_sheet: { row.sheet.bytes.now ≡ basis.now.sheet.bytes.now },
+}
+
+impl<'a> Basis<'a> {
+    ghost use Rattle.std.specs.Prelude.{◌<◌};
+    ghost use Rattle.sheet.specs.Inner.Fields.{unit_of};
+    ghost use Rattle.sheet.specs.Inner.Views.{unit_in};
+
+    pub fn of(rules: RuleSet, sheet: Sheet<'a>) -> Basis<'a>
+        ensures { (result.rules ≡ rules) × (result.sheet.bytes ≡ sheet.entry.bytes) }
+    {
+        Basis {
+            rules,
+            sheet,
+            totals: Totals::of_sheet(sheet),
+        }
+    }
+
+    // Unit i, from 0.
+    pub fn unit(&'a self, i: usize) -> Unit<'a>
+        requires { i < (sheet_of self.now.sheet.bytes.now).unit_count }
+        ensures basis { result.basis.now ≡ self.now }
+        ensures unit { unit_in result.row ≡ unit_of (sheet_of self.now.sheet.bytes.now) i }
+    {
+        Unit {
+            basis: self,
+            row: self.sheet.row(i),
+        }
+    }
 }

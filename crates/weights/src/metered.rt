@@ -1,43 +1,42 @@
 // Step 2's exception: every meter is read, and the units' heat is C.
 ghost use Rattle.std.specs.Prelude.{◌≡◌};
 ghost use Rattle.sheet.specs.Layout.{sheet_of};
-ghost use Rattle.sheet.specs.Inner.Fits.{Fits};
 ghost use Rattle.sheet.specs.WattHours.{amount_of};
 ghost use Rattle.month.specs.Weights.{all_metered, metered_sum};
 ghost use Rattle.weights.specs.Inner.Metered.{metered_heat};
-ghost use Rattle.weights.specs.Inner.Ready.{Ready};
 
-use crate::fields::{field, head};
-use crate::totals::Totals;
-use sheet::{Sum, Wh, header, rows};
+use crate::basis::Basis;
+use sheet::rows::Field;
+use sheet::{Model, Sheet, Wh};
 
 // Model 5 with every status 0.
-pub fn all_metered(s: &[u8], n: usize, t: Totals) -> bool
-    requires { Ready s.now t × (n ≡ (sheet_of s.now).unit_count) }
-    ensures { result ≡ all_metered (sheet_of s.now) }
+pub fn all_metered(basis: &Basis<'_>) -> bool
+    ensures { result ≡ all_metered (sheet_of basis.now.sheet.bytes.now) }
 {
-    head(s, header::MODEL) == 5 && t.read == n as u64
+    match basis.sheet.model() {
+        Model::ByMeters => basis.totals.read == basis.sheet.unit_count() as u64,
+        _ => false,
+    }
 }
 
 // The readings, as amounts of Wh.
-fn metered_sum(s: &[u8], n: usize) -> Sum
-    requires { Fits 32 s.now × (n ≡ (sheet_of s.now).unit_count) }
-    ensures { result ≡ amount_of (metered_sum (sheet_of s.now)) }
+fn metered_sum(sheet: Sheet<'_>) -> Option<Wh>
+    ensures { result ≡ amount_of (metered_sum (sheet_of sheet.entry.bytes.now)) }
 {
-    let mut sum = Sum::Amount(Wh::ZERO);
-    for i in 0..n {
-        sum = Sum::plus(sum, Wh::of(field(s, i, rows::READING)));
+    let mut sum = Wh::ZERO;
+    for i in 0..sheet.unit_count() {
+        let reading = Wh::of(u64::from(sheet.row(i).field(Field::Reading)))?;
+        sum = sum.plus(reading)?;
     }
-    sum
+    Some(sum)
 }
 
 // C, or nothing where the exception doesn't hold.
-pub fn metered_heat(s: &[u8], n: usize, t: Totals) -> Sum
-    requires { Ready s.now t × (n ≡ (sheet_of s.now).unit_count) }
-    ensures { result ≡ amount_of (metered_heat (sheet_of s.now)) }
+pub(crate) fn metered_heat(basis: &Basis<'_>) -> Option<Wh>
+    ensures { result ≡ amount_of (metered_heat (sheet_of basis.now.sheet.bytes.now)) }
 {
-    if all_metered(s, n, t) {
-        return metered_sum(s, n);
+    if all_metered(basis) {
+        return metered_sum(basis.sheet);
     }
-    Sum::Amount(Wh::ZERO)
+    Some(Wh::ZERO)
 }

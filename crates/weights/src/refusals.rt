@@ -4,17 +4,15 @@ ghost use Rattle.apportion.specs.Shares.{sum};
 ghost use Rattle.sheet.specs.Tests.{any};
 ghost use Rattle.sheet.specs.Layout.{sheet_of};
 ghost use Rattle.sheet.specs.Refusals.{first_refusal};
-ghost use Rattle.sheet.specs.Inner.Fits.{Fits};
 ghost use Rattle.sheet.specs.WattHours.{amount_of};
 ghost use Rattle.weights.specs.Inner.Metered.{metered_heat};
 ghost use Rattle.month.specs.Weights.{read_units, all_metered, metered_sum, has_pool, total_area, unread_weights};
 ghost use Rattle.month.specs.Month.{hot_water_wh, space_heat_wh, zero_water_divisor, zero_divisor, month_rules};
-ghost use Rattle.weights.specs.Inner.Ready.{Ready};
 
-use crate::fields::head;
+use crate::basis::Basis;
 use crate::metered::all_metered;
-use crate::totals::Totals;
-use sheet::{Outcome, Refusal, Sum, header};
+use sheet::header::Field;
+use sheet::{Model, Refusal, Wh};
 
 // Something is needed, and there is none.
 fn lacks(need: u64, whole: u64) -> bool
@@ -24,100 +22,82 @@ fn lacks(need: u64, whole: u64) -> bool
 }
 
 // 9, of step 6.
-fn zero_water_divisor(s: &[u8], t: Totals) -> bool
-    requires { Ready s.now t }
-    ensures { result ≡ zero_water_divisor (sheet_of s.now) }
+fn zero_water_divisor(basis: &Basis<'_>) -> bool
+    ensures { result ≡ zero_water_divisor (sheet_of basis.now.sheet.bytes.now) }
 {
-    if t.class1 + t.class2 == 0 {
-        return true;
-    }
-    if lacks(t.class1, t.litres) {
-        return true;
-    }
-    if lacks(t.class2, t.persons2) {
-        return true;
-    }
-    lacks(head(s, header::COMMON_WATER_PERCENT), t.persons)
+    let t = basis.totals;
+    let common = u64::from(basis.sheet.header(Field::CommonWaterPercent));
+    (t.class1 + t.class2 == 0)
+        | lacks(t.class1, t.litres)
+        | lacks(t.class2, t.persons2)
+        | lacks(common, t.persons)
 }
 
 // 9, of steps 3 and 4.
-fn zero_heat_divisor(s: &[u8], t: Totals) -> bool
-    requires { Ready s.now t }
-    ensures { result ≡ any ((eqb (sheet_of s.now).model 1 && eqb t.load 0) ∷ (eqb (sheet_of s.now).model 4 && eqb t.surface 0) ∷ []) }
+fn zero_heat_divisor(basis: &Basis<'_>) -> bool
+    ensures { result ≡ any ((eqb (sheet_of basis.now.sheet.bytes.now).model 1 && eqb basis.now.totals.load 0) ∷ (eqb (sheet_of basis.now.sheet.bytes.now).model 4 && eqb basis.now.totals.surface 0) ∷ []) }
 {
-    let model = head(s, header::MODEL);
-    if model == 1 {
-        return t.load == 0;
+    match basis.sheet.model() {
+        Model::ByLoad => basis.totals.load == 0,
+        Model::ByAllocatorsAndRisers => basis.totals.surface == 0,
+        _ => false,
     }
-    if model == 4 {
-        return t.surface == 0;
-    }
-    false
 }
 
 // 9.
-fn zero_divisor(s: &[u8], t: Totals, h: u64) -> bool
-    requires { Ready s.now t × (h ≡ hot_water_wh (sheet_of s.now)) }
-    ensures { result ≡ zero_divisor (sheet_of s.now) }
+fn zero_divisor(basis: &Basis<'_>, h: u64) -> bool
+    requires { h ≡ hot_water_wh (sheet_of basis.now.sheet.bytes.now) }
+    ensures { result ≡ zero_divisor (sheet_of basis.now.sheet.bytes.now) }
 {
-    if h == 0 {
-        return zero_heat_divisor(s, t);
-    }
-    if zero_water_divisor(s, t) {
-        return true;
-    }
-    zero_heat_divisor(s, t)
+    (0 < h) & zero_water_divisor(basis) | zero_heat_divisor(basis)
 }
 
 // 10.
-fn no_readings(s: &[u8], t: Totals) -> bool
-    requires { Ready s.now t }
-    ensures { result ≡ (leb 3 (sheet_of s.now).model && eqb (length (read_units (sheet_of s.now))) 0) }
+fn no_readings(basis: &Basis<'_>) -> bool
+    ensures { result ≡ (leb 3 (sheet_of basis.now.sheet.bytes.now).model && eqb (length (read_units (sheet_of basis.now.sheet.bytes.now))) 0) }
 {
-    3 <= head(s, header::MODEL) && t.read == 0
+    basis.sheet.model().has_readings() && basis.totals.read == 0
 }
 
 // 11.
-fn meters_exceed(s: &[u8], h: u64, c: Sum) -> bool
-    requires { Fits 32 s.now × (h ≡ hot_water_wh (sheet_of s.now)) × (h ≤ (sheet_of s.now).shared_meter) × (c ≡ amount_of (metered_heat (sheet_of s.now))) }
-    ensures { result ≡ (all_metered (sheet_of s.now) && ltb (space_heat_wh (sheet_of s.now)) (metered_sum (sheet_of s.now))) }
+fn meters_exceed(basis: &Basis<'_>, h: u64, c: Option<Wh>) -> bool
+    requires { (h ≡ hot_water_wh (sheet_of basis.now.sheet.bytes.now)) × (h ≤ (sheet_of basis.now.sheet.bytes.now).shared_meter) × (c ≡ amount_of (metered_heat (sheet_of basis.now.sheet.bytes.now))) }
+    ensures { result ≡ (all_metered (sheet_of basis.now.sheet.bytes.now) && ltb (space_heat_wh (sheet_of basis.now.sheet.bytes.now)) (metered_sum (sheet_of basis.now.sheet.bytes.now))) }
 {
-    Sum::past(c, head(s, header::SHARED_METER) - h)
+    let space_heat = u64::from(basis.sheet.header(Field::SharedMeter)) - h;
+    match c {
+        Some(metered) => space_heat < metered.number(),
+        None => true,
+    }
 }
 
 // 12.
-fn pool_exceeded(s: &[u8], n: usize, t: Totals) -> bool
-    requires { Ready s.now t × (n ≡ (sheet_of s.now).unit_count) }
-    ensures { result ≡ (has_pool (sheet_of s.now) && ltb (10000 * total_area (sheet_of s.now)) (sum (unread_weights (sheet_of s.now)))) }
+fn pool_exceeded(basis: &Basis<'_>) -> bool
+    ensures { result ≡ (has_pool (sheet_of basis.now.sheet.bytes.now) && ltb (10000 * total_area (sheet_of basis.now.sheet.bytes.now)) (sum (unread_weights (sheet_of basis.now.sheet.bytes.now)))) }
 {
-    if head(s, header::MODEL) < 3 {
-        return false;
-    }
-    if all_metered(s, n, t) {
-        return false;
-    }
-    10000 * t.area < t.unread
+    let t = basis.totals;
+    basis.sheet.model().has_readings() & !all_metered(basis) & (10000 * t.area < t.unread)
 }
 
 // 8 to 12, in this order.
-pub fn refusal(s: &[u8], n: usize, t: Totals, h: u64, c: Sum) -> Outcome
-    requires { Ready s.now t × (n ≡ (sheet_of s.now).unit_count) × (h ≡ hot_water_wh (sheet_of s.now)) × (c ≡ amount_of (metered_heat (sheet_of s.now))) }
-    ensures { result ≡ first_refusal (month_rules (sheet_of s.now)) }
+pub(crate) fn check_month(basis: &Basis<'_>, h: u64, c: Option<Wh>) -> Result<(), Refusal>
+    requires { (h ≡ hot_water_wh (sheet_of basis.now.sheet.bytes.now)) × (c ≡ amount_of (metered_heat (sheet_of basis.now.sheet.bytes.now))) }
+    ensures { result ≡ first_refusal (month_rules (sheet_of basis.now.sheet.bytes.now)) }
 {
-    if head(s, header::SHARED_METER) < h {
-        return Outcome::Refused(Refusal::HotWaterExceedsMeter);
+    if u64::from(basis.sheet.header(Field::SharedMeter)) < h {
+        return Err(Refusal::HotWaterExceedsMeter);
     }
-    if zero_divisor(s, t, h) {
-        return Outcome::Refused(Refusal::ZeroDivisor);
+    if zero_divisor(basis, h) {
+        return Err(Refusal::ZeroDivisor);
     }
-    if no_readings(s, t) {
-        return Outcome::Refused(Refusal::NoReadings);
+    if no_readings(basis) {
+        return Err(Refusal::NoReadings);
     }
-    if meters_exceed(s, h, c) {
-        return Outcome::Refused(Refusal::MetersExceedHeat);
+    if meters_exceed(basis, h, c) {
+        return Err(Refusal::MetersExceedHeat);
     }
-    if pool_exceeded(s, n, t) {
-        return Outcome::Refused(Refusal::UnmeteredExceedsHeat);
+    if pool_exceeded(basis) {
+        return Err(Refusal::UnmeteredExceedsHeat);
     }
-    Outcome::Accepted
+    Ok(())
 }

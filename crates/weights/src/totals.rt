@@ -1,14 +1,13 @@
 // The sums over the units that the steps need, in one pass.
 ghost use Rattle.std.specs.Prelude.{◌≡◌};
 ghost use Rattle.sheet.specs.Layout.{sheet_of};
-ghost use Rattle.sheet.specs.Inner.Fields.{unit_of};
-ghost use Rattle.sheet.specs.Inner.Fits.{Fits};
-ghost use Rattle.weights.specs.Inner.Totals.{only_if, of_unit, plus_totals, Within};
-ghost use Rattle.weights.specs.Inner.Ready.{RowReady, Ready};
+ghost use Rattle.sheet.specs.Inner.Views.{sheet_in, unit_in};
+ghost use Rattle.weights.specs.Inner.Totals.{only_if, of_unit, plus_totals, totals_in, Within};
 
-use crate::fields::field;
+use crate::kinds::{is_by_persons, is_by_volume, is_read};
 use crate::units::{common_water_weight, unread_weight};
-use sheet::rows;
+use sheet::rows::Field;
+use sheet::{RowView, Sheet};
 
 // P, Σq, n1, n2, L, N2, persons, the weight of the units not read, how many are read, A, S, B.
 #[derive(Clone, Copy)]
@@ -42,33 +41,33 @@ const NOTHING: Totals = Totals {
     readings: 0,
 };
 
-pub fn only_if(b: bool, x: u64) -> u64
+pub(crate) fn only_if(b: bool, x: u64) -> u64
     ensures { result ≡ only_if b x }
 {
     if b { x } else { 0 }
 }
 
-// What unit i adds. A unit of another class than 1 has no litres, and one that isn't read no reading.
-fn of_row(s: &[u8], i: usize) -> Totals
-    requires { RowReady s.now i }
-    ensures { (result ≡ of_unit (sheet_of s.now) (unit_of (sheet_of s.now) i)) × Within 1 result }
+// What a unit adds. A unit of another class than 1 has no litres, and one that isn't read no reading.
+fn of_row(row: RowView<'_>) -> Totals
+    ensures { (result ≡ of_unit (sheet_in row.entry) (unit_in row.entry)) × Within 1 result }
 {
-    let status = field(s, i, rows::STATUS);
-    let class = field(s, i, rows::WATER_CLASS);
-    let p = field(s, i, rows::HEATED_AREA);
+    let read = is_read(row);
+    let by_volume = is_by_volume(row);
+    let by_persons = is_by_persons(row);
+    let p = u64::from(row.field(Field::HeatedArea));
     Totals {
         area: p,
-        load: field(s, i, rows::HEAT_LOAD),
-        class1: only_if(class == 1, 1),
-        class2: only_if(class == 2, 1),
-        litres: field(s, i, rows::LITRES),
-        persons2: only_if(class == 2, field(s, i, rows::PERSONS)),
-        persons: common_water_weight(s, i),
-        unread: only_if(status != 0, unread_weight(s, i)),
-        read: only_if(status == 0, 1),
-        readarea: only_if(status == 0, p),
-        surface: only_if(status == 0, field(s, i, rows::RISER_SURFACE)),
-        readings: field(s, i, rows::READING),
+        load: u64::from(row.field(Field::HeatLoad)),
+        class1: only_if(by_volume, 1),
+        class2: only_if(by_persons, 1),
+        litres: u64::from(row.field(Field::Litres)),
+        persons2: only_if(by_persons, u64::from(row.field(Field::Persons))),
+        persons: common_water_weight(row),
+        unread: only_if(!read, unread_weight(row)),
+        read: only_if(read, 1),
+        readarea: only_if(read, p),
+        surface: only_if(read, u64::from(row.field(Field::RiserSurface))),
+        readings: u64::from(row.field(Field::Reading)),
     }
 }
 
@@ -92,13 +91,14 @@ fn plus(a: Totals, b: Totals) -> Totals
     }
 }
 
-pub fn sum_rows(s: &[u8], n: usize) -> Totals
-    requires { Fits 32 s.now × (n ≡ (sheet_of s.now).unit_count) }
-    ensures { Ready s.now result }
-{
-    let mut t = NOTHING;
-    for i in 0..n {
-        t = plus(t, of_row(s, i));
+impl Totals {
+    pub fn of_sheet(sheet: Sheet<'_>) -> Totals
+        ensures { result ≡ totals_in (sheet_of sheet.entry.bytes.now) }
+    {
+        let mut t = NOTHING;
+        for i in 0..sheet.unit_count() {
+            t = plus(t, of_row(sheet.row(i)));
+        }
+        t
     }
-    t
 }

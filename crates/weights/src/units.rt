@@ -1,33 +1,24 @@
 // The weight of a unit in each division (document 01, steps 3, 4 and 6).
-ghost use Rattle.std.specs.Prelude.{◌≡◌, ◌&&◌, ◌||◌, ◌+◌, ◌*◌, ◌-◌, ◌≤◌, ltb, eqb, if◌then◌else◌};
+ghost use Rattle.std.specs.Prelude.{◌≡◌, ◌&&◌, ◌+◌, ◌*◌, ◌-◌, ◌≤◌, ltb, eqb, if◌then◌else◌};
 ghost use Rattle.sheet.specs.RuleSets.{limits_risers};
-ghost use Rattle.sheet.specs.Layout.{sheet_of};
-ghost use Rattle.sheet.specs.Inner.Fields.{unit_of};
+ghost use Rattle.sheet.specs.Inner.Views.{sheet_in, unit_in};
 ghost use Rattle.month.specs.Weights.{limited, area_weight, surface_weight, read_weight, unread_weight, water_weight, common_water_weight};
 ghost use Rattle.weights.specs.Inner.Limits.{weight_by};
-ghost use Rattle.weights.specs.Inner.Ready.{RowReady, Ready};
 
-use crate::basis::Basis;
-use crate::fields::{field, head};
-use crate::totals::{Totals, only_if};
-use apportion::{larger, smaller};
-use sheet::{RuleSet, header, limits_risers, rows};
-
-// Status 1 or 4: the factor for unmetered units applies.
-fn no_device(status: u64) -> bool
-    ensures { result ≡ (eqb status 1 || eqb status 4) }
-{
-    status == 1 || status == 4
-}
+use crate::basis::Unit;
+use crate::kinds::{has_no_device, is_by_persons, is_by_volume};
+use crate::totals::only_if;
+use sheet::rows::Field;
+use sheet::{Model, RowView, RuleSet, header, limits_risers};
 
 // Step 3.
-pub fn unread_weight(s: &[u8], i: usize) -> u64
-    requires { RowReady s.now i }
-    ensures { (result ≡ unread_weight (sheet_of s.now) (unit_of (sheet_of s.now) i)) × (result ≤ 350000000) }
+pub(crate) fn unread_weight(row: RowView<'_>) -> u64
+    ensures { (result ≡ unread_weight (sheet_in row.entry) (unit_in row.entry)) × (result ≤ 350000000) }
 {
-    let p = field(s, i, rows::HEATED_AREA);
-    if no_device(field(s, i, rows::STATUS)) {
-        return p * field(s, i, rows::LOCATION_FACTOR) * head(s, header::UNMETERED_FACTOR);
+    let p = u64::from(row.field(Field::HeatedArea));
+    if has_no_device(row) {
+        let factor = u64::from(row.sheet.header(header::Field::UnmeteredFactor));
+        return p * u64::from(row.field(Field::LocationFactor)) * factor;
     }
     p * 10000
 }
@@ -48,76 +39,25 @@ fn limit_if(limits: bool, base: u64, r: u64) -> u64
     if !limits {
         return r;
     }
-    larger(40 * base, smaller(300 * base, r))
+    r.min(300 * base).max(40 * base)
 }
 
-// Step 4, models 3 and 4: r by the unit's own p or s and the sum of it over the read units, limited or not, then × KF.
-fn weight_by(s: &[u8], i: usize, t: Totals, own: u64, whole: u64, limits: bool) -> u64
-    requires { RowReady s.now i × Ready s.now t × ((sheet_of s.now).model ≤ 4) × (own ≤ 10000) × (whole ≤ 1600000) }
-    ensures { result ≡ weight_by limits (sheet_of s.now) (unit_of (sheet_of s.now) i) own whole }
+// Step 4 without any reading: p × KF, for model 4 s × KF.
+fn factor_weight(row: RowView<'_>) -> u64
+    ensures { result ≡ (if eqb (sheet_in row.entry).model 4 then (unit_in row.entry).riser_surface else (unit_in row.entry).heated_area) * (unit_in row.entry).location_factor }
 {
-    let v = head(s, header::BASE_PERCENT);
-    let k = field(s, i, rows::LOCATION_FACTOR);
-    let r = mixed(v, field(s, i, rows::READING), whole, own, t.readings);
-    limit_if(limits, own * t.readings, r) * k
-}
-
-// Step 4, model 3.
-fn area_weight(s: &[u8], i: usize, t: Totals) -> u64
-    requires { RowReady s.now i × Ready s.now t × ((sheet_of s.now).model ≤ 4) }
-    ensures { result ≡ area_weight (sheet_of s.now) (unit_of (sheet_of s.now) i) }
-{
-    weight_by(s, i, t, field(s, i, rows::HEATED_AREA), t.readarea, true)
+    let factor = u64::from(row.field(Field::LocationFactor));
+    match row.sheet.model() {
+        Model::ByAllocatorsAndRisers => u64::from(row.field(Field::RiserSurface)) * factor,
+        _ => u64::from(row.field(Field::HeatedArea)) * factor,
+    }
 }
 
 // Step 4, model 4 (2026-01): where the rules limit risers and the unit has some.
 fn riser_limits(rules: RuleSet, surface: u64) -> bool
     ensures { result ≡ (limits_risers rules && ltb 0 surface) }
 {
-    if !limits_risers(rules) {
-        return false;
-    }
-    0 < surface
-}
-
-// Step 4, model 4.
-fn surface_weight(s: &[u8], i: usize, basis: Basis) -> u64
-    requires { RowReady s.now i × Ready s.now basis.totals × ((sheet_of s.now).model ≤ 4) }
-    ensures { result ≡ surface_weight basis.rules (sheet_of s.now) (unit_of (sheet_of s.now) i) }
-{
-    let rules = basis.rules;
-    let surface = field(s, i, rows::RISER_SURFACE);
-    let limits = riser_limits(rules, surface);
-    weight_by(s, i, basis.totals, surface, basis.totals.surface, limits)
-}
-
-// Step 4 without any reading: a field × KF.
-fn by_factor(s: &[u8], i: usize, x: u64) -> u64
-    requires { RowReady s.now i × (x ≤ 10000) }
-    ensures { result ≡ x * (unit_of (sheet_of s.now) i).location_factor }
-{
-    x * field(s, i, rows::LOCATION_FACTOR)
-}
-
-// Step 4.
-pub fn read_weight(s: &[u8], i: usize, basis: Basis) -> u64
-    requires { RowReady s.now i × Ready s.now basis.totals }
-    ensures { result ≡ read_weight basis.rules (sheet_of s.now) (unit_of (sheet_of s.now) i) }
-{
-    let model = head(s, header::MODEL);
-    if basis.totals.readings == 0 {
-        if model == 4 {
-            return by_factor(s, i, field(s, i, rows::RISER_SURFACE));
-        }
-        return by_factor(s, i, field(s, i, rows::HEATED_AREA));
-    }
-    if model == 3 {
-        return area_weight(s, i, basis.totals);
-    }
-    if model == 4 {
-        return surface_weight(s, i, basis);
-    }
-    field(s, i, rows::READING)
+    limits_risers(rules) && 0 < surface
 }
 
 // Step 6: what a litre or a person of a class weighs; 1 if the other class has no unit.
@@ -131,22 +71,80 @@ fn class_factor(units: u64, others: u64, amount: u64) -> u64
     units * amount
 }
 
-// Step 6, units' water: without a jump that depends on the unit's class.
-pub fn water_weight(s: &[u8], i: usize, t: Totals) -> u64
-    requires { RowReady s.now i × Ready s.now t }
-    ensures { result ≡ water_weight (sheet_of s.now) (unit_of (sheet_of s.now) i) }
+// Step 6, common water: a unit of class 0 has no persons.
+pub(crate) fn common_water_weight(row: RowView<'_>) -> u64
+    ensures { (result ≡ common_water_weight (unit_in row.entry)) × (result ≤ 50) }
 {
-    let class = field(s, i, rows::WATER_CLASS);
-    let litre = class_factor(t.class1, t.class2, t.persons2);
-    let person = class_factor(t.class2, t.class1, t.litres);
-    only_if(class == 1, litre * field(s, i, rows::LITRES))
-        + only_if(class == 2, person * field(s, i, rows::PERSONS))
+    u64::from(row.field(Field::Persons))
 }
 
-// Step 6, common water: a unit of class 0 has no persons.
-pub fn common_water_weight(s: &[u8], i: usize) -> u64
-    requires { RowReady s.now i }
-    ensures { (result ≡ common_water_weight (unit_of (sheet_of s.now) i)) × (result ≤ 50) }
-{
-    field(s, i, rows::PERSONS)
+impl<'a> Unit<'a> {
+    // Step 4, models 3 and 4: r by the unit's own p or s and the sum of it over the read units, limited or not, then × KF.
+    fn weight_by(self, own: u64, whole: u64, limits: bool) -> u64
+        requires { ((sheet_in self.row).model ≤ 4) × (own ≤ 10000) × (whole ≤ 1600000) }
+        ensures { result ≡ weight_by limits (sheet_in self.entry.row) (unit_in self.entry.row) own whole }
+    {
+        let row = self.row;
+        let readings = self.basis.totals.readings;
+        let v = u64::from(row.sheet.header(header::Field::BasePercent));
+        let r = mixed(
+            v,
+            u64::from(row.field(Field::Reading)),
+            whole,
+            own,
+            readings,
+        );
+        limit_if(limits, own * readings, r) * u64::from(row.field(Field::LocationFactor))
+    }
+
+    // Step 4, model 3.
+    fn area_weight(self) -> u64
+        requires { (sheet_in self.row).model ≤ 4 }
+        ensures { result ≡ area_weight (sheet_in self.entry.row) (unit_in self.entry.row) }
+    {
+        let area = u64::from(self.row.field(Field::HeatedArea));
+        self.weight_by(area, self.basis.totals.readarea, true)
+    }
+
+    // Step 4, model 4.
+    fn surface_weight(self) -> u64
+        requires { (sheet_in self.row).model ≤ 4 }
+        ensures { result ≡ surface_weight self.entry.basis.now.rules (sheet_in self.entry.row) (unit_in self.entry.row) }
+    {
+        let surface = u64::from(self.row.field(Field::RiserSurface));
+        let limits = riser_limits(self.basis.rules, surface);
+        self.weight_by(surface, self.basis.totals.surface, limits)
+    }
+
+    // Step 4.
+    pub(crate) fn read_weight(self) -> u64
+        ensures { result ≡ read_weight self.entry.basis.now.rules (sheet_in self.entry.row) (unit_in self.entry.row) }
+    {
+        let row = self.row;
+        if self.basis.totals.readings == 0 {
+            return factor_weight(row);
+        }
+        match row.sheet.model() {
+            Model::ByAllocatorsAndArea => self.area_weight(),
+            Model::ByAllocatorsAndRisers => self.surface_weight(),
+            _ => u64::from(row.field(Field::Reading)),
+        }
+    }
+
+    // Step 6, units' water: without a jump that depends on the unit's class.
+    pub(crate) fn water_weight(self) -> u64
+        ensures { result ≡ water_weight (sheet_in self.entry.row) (unit_in self.entry.row) }
+    {
+        let row = self.row;
+        let t = self.basis.totals;
+        let litre = class_factor(t.class1, t.class2, t.persons2);
+        let person = class_factor(t.class2, t.class1, t.litres);
+        only_if(
+            is_by_volume(row),
+            litre * u64::from(row.field(Field::Litres)),
+        ) + only_if(
+            is_by_persons(row),
+            person * u64::from(row.field(Field::Persons)),
+        )
+    }
 }

@@ -1,7 +1,7 @@
--- Any of a list of tests, by place; two lists taken together, by place; zeros. Assumes nothing.
+-- Any of a list of tests, by place; zeros. Assumes nothing.
 use mathlib.Core.Path.{◌≡◌, refl}
 use mathlib.Core.Bool.{Bool, true, false, ◌||◌}
-use mathlib.Core.List.{List, [], ◌∷◌, zip_with}
+use mathlib.Core.List.{List, [], ◌∷◌}
 use Prim.Native.Nat.{ℕ, zero, suc, ◌<◌}
 use native.Mathlib.Omega.{arith}
 use native.Mathlib.Decide.{dec_lt}
@@ -36,21 +36,6 @@ unfolding any
 not-any [] e i = refl
 not-any (t ∷ ts) e zero = (neither t (any ts) e).0
 not-any (t ∷ ts) e (suc i) = not-any ts (neither t (any ts) e).1 i
-
--- ---- two lists of one length
-module _ {A : Type 0} (f : ℕ → ℕ → A) where
-  pub zip_length : (xs ys : List ℕ) → length xs ≡ length ys → length (zip_with f xs ys) ≡ length xs
-  unfolding zip_with
-  zip_length [] ys e = refl
-  zip_length (x ∷ xs) [] e = absurd (omega arith)
-  zip_length (x ∷ xs) (y ∷ ys) e = omega (arith, zip_length xs ys (omega arith))
-
-  pub zip_at : (xs ys : List ℕ) (i : ℕ) (d : A) → i < length xs → i < length ys → get_or (zip_with f xs ys) i d ≡ f (get_or xs i 0) (get_or ys i 0)
-  unfolding zip_with
-  zip_at [] ys i d h l = absurd (omega arith)
-  zip_at (x ∷ xs) [] i d h l = absurd (omega arith)
-  zip_at (x ∷ xs) (y ∷ ys) zero d h l = refl
-  zip_at (x ∷ xs) (y ∷ ys) (suc i) d h l = zip_at xs ys i d (omega arith) (omega arith)
 
 -- ---- zeros
 pub zero-at : (n x : ℕ) → get_or (replicate {A = ℕ} n 0) x 0 ≡ 0

@@ -1,43 +1,34 @@
--- An update of the year sums place by place, and refusal 19. Assumes nothing.
-use mathlib.Core.Path.{◌≡◌, refl, sym, ap, subst, ◌∙◌}
+-- An update of the year sums, and refusal 19. Assumes nothing.
+use mathlib.Core.Path.{◌≡◌, refl, sym, ap, ◌∙◌}
 use mathlib.Core.Bool.{Bool, true, false, ◌||◌}
-use mathlib.Core.List.{List, map, zip_with}
-use Prim.Native.Nat.{ℕ, ◌+◌, ◌*◌, ◌-◌, ◌≤◌, ◌<◌}
+use mathlib.Core.List.{List, [], ◌∷◌, ◌++◌, map, zip_with}
+use Prim.Native.Nat.{ℕ, zero, suc, ◌+◌, ◌*◌, ◌-◌, ◌%◌, ◌≤◌, ◌<◌}
 use native.Mathlib.Omega.{arith}
-use native.Mathlib.Decide.{dec_lt}
 use lib.Dec.{ltb}
-use lib.Bits.{bit_or, or_add_and, and_le_l, and_le_r}
-use borrow.Author.Tests.{lt-ltb, le-ltb, ltb-false, eq-eqb, ne_eqb, eqb-true, not-true, not-false}
-use lib.ListN.{length, get_or, length-map, length-replicate, get_or-map}
+use lib.Bits.{bit_or}
+use borrow.Author.Tests.{le-ltb, ltb-false, eq-eqb, ne_eqb, eqb-true, not-false}
+use lib.ListN.{length, get_or, take, drop, length-take, take-append-drop}
+use Rattle.std.specs.Prelude.{if◌then◌else◌, Ok, Err}
+use Rattle.std.specs.declared.result.Result.{Result}
 use Rattle.sheet.specs.Tests.{any}
+use Rattle.sheet.specs.declared.refusal.Refusal.{Refusal}
+use Rattle.sheet.specs.declared.refusal.Refusal.TheVariants.{BadYearSums}
+use Rattle.std.specs.List.{fold}
+use Rattle.std.proofs.lemmas.List.{get_or-append_right, get_or-drop}
+use Rattle.std.proofs.lemmas.Nat.{le_or_l, le_or_r}
 use Rattle.year_sums.specs.YearSums.{sums_length, most64, updated, bad_sums}
-use Rattle.year_sums.specs.Inner.Update.{if_taken, or_nothing, Blocks, Reach, AllFar, Within, Updates}
-use Rattle.year_sums.proofs.Lists.{neither, none_of_two, second_of_two, some-test, no_test, not-any, zip_length, zip_at, zero-at}
+use Rattle.year_sums.specs.Inner.Update.{past_an_end, some_past_an_end, SameLength, Blocks, Reach, Far, Updates}
+use Rattle.year_sums.proofs.Lists.{neither, none_of_two}
 
--- a sum, what is taken off and what is added: below zero or past 64 bits
-abbrev pub past_an_end : (sum old new : ℕ) → Bool
-past_an_end sum old new = ltb sum old || ltb most64 (sum - old + new)
-
--- as code tests it, without passing 64 bits itself
-pub past-above : (sum old new : ℕ) → sum < old → true ≡ past_an_end sum old new
-past-above sum old new h = rw (lt-ltb sum old h)
-
-pub past-upper : (sum old new : ℕ) → old ≤ sum → sum ≤ most64 → ltb (most64 - (sum - old)) new ≡ past_an_end sum old new
-past-upper sum old new h m = rw (le-ltb sum old h) (elim (dec_lt most64 (sum - old + new)) [
-  | yes l ↦ lt-ltb (most64 - (sum - old)) new (omega arith) ∙ sym (lt-ltb most64 (sum - old + new) l)
-  | no l ↦ le-ltb (most64 - (sum - old)) new (omega arith) ∙ sym (le-ltb most64 (sum - old + new) (omega arith))
-])
-
--- bits gathered
-pub or_above : (a b : ℕ) → (a ≤ bit_or a b) × (b ≤ bit_or a b)
-or_above a b = (omega (arith, or_add_and a b, and_le_r a b), omega (arith, or_add_and a b, and_le_l a b))
-
--- a difference that hasn't wrapped
-pub in_lower_half : (sum old d : ℕ) → (old ≤ sum → d ≡ sum - old) → (sum < old → 9223372036854775808 ≤ d) → d < 9223372036854775808 → (old ≤ sum) × (sum - old < 9223372036854775808)
-in_lower_half sum old d is wraps h = elim (dec_lt sum old) [
-  | yes l ↦ absurd (omega (arith, wraps l))
-  | no l ↦ (omega arith, omega (arith, is (omega arith)))
-]
+-- ---- three lists of one length
+pub along : (P : List ℕ → List ℕ → List ℕ → Type 0) → P [] [] [] → ((s o n : ℕ) (ss os ns : List ℕ) → P ss os ns → P (s ∷ ss) (o ∷ os) (n ∷ ns))
+    → (sums old new : List ℕ) → SameLength sums old new → P sums old new
+along P base step [] [] [] e = base
+along P base step (s ∷ ss) (o ∷ os) (n ∷ ns) e = step s o n ss os ns (along P base step ss os ns (record { old-long = omega arith; new-long = omega arith }))
+along P base step [] (o ∷ os) ns e = absurd (omega arith)
+along P base step [] [] (n ∷ ns) e = absurd (omega arith)
+along P base step (s ∷ ss) [] ns e = absurd (omega arith)
+along P base step (s ∷ ss) (o ∷ os) [] e = absurd (omega arith)
 
 -- a number that can change
 pub record Fits (sum old new : ℕ) : Type 0 where
@@ -49,6 +40,127 @@ past-neither sum old new e =
     let n = neither (ltb sum old) _ e in
     record { above = ltb-false sum old n.0; below = ltb-false most64 (sum - old + new) n.1 }
 
+pub not-past : (sum old new : ℕ) → old ≤ sum → sum - old + new ≤ most64 → past_an_end sum old new ≡ false
+not-past sum old new h l = none_of_two (le-ltb sum old h) (le-ltb most64 (sum - old + new) l)
+
+-- ---- by place
+module _ {sums old new : List ℕ} (same : SameLength sums old new) where
+  pub long : length (updated sums old new) ≡ length sums
+  unfolding updated zip_with
+  long = along (λ ss os ns. length (updated ss os ns) ≡ length ss) refl (λ s o n ss os ns e. omega arith) sums old new same
+
+  pub there : (k : ℕ) → k < length sums → get_or (updated sums old new) k 0 ≡ get_or sums k 0 - get_or old k 0 + get_or new k 0
+  unfolding updated zip_with
+  there = along (λ ss os ns. (k : ℕ) → k < length ss → get_or (updated ss os ns) k 0 ≡ get_or ss k 0 - get_or os k 0 + get_or ns k 0)
+      (λ k h. absurd (omega arith))
+      (λ s o n ss os ns e k. elim k as (λ k. k < length (s ∷ ss) → get_or (updated (s ∷ ss) (o ∷ os) (n ∷ ns)) k 0 ≡ get_or (s ∷ ss) k 0 - get_or (o ∷ os) k 0 + get_or (n ∷ ns) k 0) [
+        | zero ↦ λ h. refl
+        | suc k ↦ λ h. e k (omega arith)
+      ])
+      sums old new same
+
+  pub fits_there : some_past_an_end sums old new ≡ false → (k : ℕ) → k < length sums → Fits (get_or sums k 0) (get_or old k 0) (get_or new k 0)
+  fits_there = along (λ ss os ns. some_past_an_end ss os ns ≡ false → (k : ℕ) → k < length ss → Fits (get_or ss k 0) (get_or os k 0) (get_or ns k 0))
+      (λ g k h. absurd (omega arith))
+      (λ s o n ss os ns e g k. let both = neither (past_an_end s o n) _ g in elim k as (λ k. k < length (s ∷ ss) → Fits (get_or (s ∷ ss) k 0) (get_or (o ∷ os) k 0) (get_or (n ∷ ns) k 0)) [
+        | zero ↦ λ h. past-neither s o n both.0
+        | suc k ↦ λ h. e both.1 k (omega arith)
+      ])
+      sums old new same
+
+  pub past_nowhere : ((k : ℕ) → k < length sums → past_an_end (get_or sums k 0) (get_or old k 0) (get_or new k 0) ≡ false) → some_past_an_end sums old new ≡ false
+  past_nowhere = along (λ ss os ns. ((k : ℕ) → k < length ss → past_an_end (get_or ss k 0) (get_or os k 0) (get_or ns k 0) ≡ false) → some_past_an_end ss os ns ≡ false)
+      (λ g. refl)
+      (λ s o n ss os ns e g. none_of_two (g 0 (omega arith)) (e (λ k h. g (suc k) (omega arith))))
+      sums old new same
+
+  -- the definition tests all sums for the one end, then all for the other
+  pub each-tested : some_past_an_end sums old new ≡ (any (zip_with ltb sums old) || any (map (ltb most64) (updated sums old new)))
+  unfolding updated zip_with any
+  each-tested = along (λ ss os ns. some_past_an_end ss os ns ≡ (any (zip_with ltb ss os) || any (map (ltb most64) (updated ss os ns))))
+      refl
+      (λ s o n ss os ns e. ap (λ t. past_an_end s o n || t) e ∙ between (ltb s o) (ltb most64 (s - o + n)) (any (zip_with ltb ss os)) (any (map (ltb most64) (updated ss os ns))))
+      sums old new same
+    where
+      between : (a b x y : Bool) → ((a || b) || (x || y)) ≡ ((a || x) || (b || y))
+      between true b x y = refl
+      between false true true y = refl
+      between false true false y = refl
+      between false false x y = refl
+
+-- ---- bits gathered
+module _ {A : Type 0} (f : A → ℕ) where
+  pub bits_kept : (bits : ℕ) (xs : List A) → bits ≤ fold (λ b x. bit_or b (f x)) bits xs
+  bits_kept bits [] = omega arith
+  bits_kept bits (x ∷ xs) = omega (arith, le_or_l bits (f x), bits_kept (bit_or bits (f x)) xs)
+
+  pub bits_gathered : (bits : ℕ) (xs : List A) (k : ℕ) (d : A) → k < length xs → f (get_or xs k d) ≤ fold (λ b x. bit_or b (f x)) bits xs
+  bits_gathered bits [] k d h = absurd (omega arith)
+  bits_gathered bits (x ∷ xs) zero d h = omega (arith, le_or_r bits (f x), bits_kept (bit_or bits (f x)) xs)
+  bits_gathered bits (x ∷ xs) (suc k) d h = bits_gathered (bit_or bits (f x)) xs k d (omega arith)
+
+-- the difference as 64 bits hold it
+abbrev pub difference : ℕ × ℕ → ℕ
+difference p = (p.0 + (18446744073709551616 - p.1)) % 18446744073709551616
+
+pub far-one : (sum old : ℕ) → sum ≤ most64 → old < 4294967296 → difference (sum, old) < 9223372036854775808 → Far sum old
+far-one sum old m l h = record { above = omega arith; room = omega arith }
+
+-- ---- an update that reaches only the first r places
+-- a fact of each number from the place r on
+abbrev From : (ℕ → Type 0) → ℕ → List ℕ → Type 0
+From P r xs = (k : ℕ) → r ≤ k → P (get_or xs k 0)
+
+abbrev Zeros : ℕ → List ℕ → Type 0
+Zeros = From (λ x. x ≡ 0)
+
+abbrev Wide : ℕ → List ℕ → Type 0
+Wide = From (λ x. x ≤ most64)
+
+pub record Within (sums old new : List ℕ) (r : ℕ) : Type 0 where
+  pub count : length sums ≡ sums_length
+  pub same : SameLength sums old new
+  pub most : r ≤ sums_length
+  pub old-rest : Zeros r old
+  pub new-rest : Zeros r new
+
+module _ {sums old new : List ℕ} {r : ℕ} (w : Within sums old new r) where
+  front-length : length (take r sums) ≡ r
+  front-length = simp length-take (omega arith)
+
+  pub fronts : SameLength (take r sums) (take r old) (take r new)
+  fronts = let s = w.same in record { old-long = simp length-take (omega arith); new-long = simp length-take (omega arith) }
+
+  pub past_in_front : Wide r sums → some_past_an_end sums old new ≡ some_past_an_end (take r sums) (take r old) (take r new)
+  past_in_front wide =
+      along (λ ss os ns. (r : ℕ) → Zeros r os → Zeros r ns → Wide r ss → some_past_an_end ss os ns ≡ some_past_an_end (take r ss) (take r os) (take r ns))
+      (λ r y z l. elim r as (λ r. some_past_an_end [] [] [] ≡ some_past_an_end (take r []) (take r []) (take r [])) [ zero ↦ refl | suc r ↦ refl ])
+      (λ s o n ss os ns e r. elim r as (λ r. Zeros r (o ∷ os) → Zeros r (n ∷ ns) → Wide r (s ∷ ss) → some_past_an_end (s ∷ ss) (o ∷ os) (n ∷ ns) ≡ some_past_an_end (take r (s ∷ ss)) (take r (o ∷ os)) (take r (n ∷ ns))) [
+        | zero ↦ λ y z l.
+            let i : o ≡ 0 = y 0 (omega arith) in
+            let j : n ≡ 0 = z 0 (omega arith) in
+            let m : s ≤ most64 = l 0 (omega arith) in
+            none_of_two (not-past s o n (omega arith) (omega arith)) (e 0 (λ k h. y (suc k) (omega arith)) (λ k h. z (suc k) (omega arith)) (λ k h. l (suc k) (omega arith)))
+        | suc q ↦ λ y z l. ap (λ t. past_an_end s o n || t) (e q (λ k h. y (suc k) (omega arith)) (λ k h. z (suc k) (omega arith)) (λ k h. l (suc k) (omega arith)))
+      ])
+      sums old new w.same r w.old-rest w.new-rest wide
+
+  pub updated_in_front : updated sums old new ≡ updated (take r sums) (take r old) (take r new) ++ drop r sums
+  unfolding updated zip_with
+  updated_in_front =
+      along (λ ss os ns. (r : ℕ) → Zeros r os → Zeros r ns → updated ss os ns ≡ updated (take r ss) (take r os) (take r ns) ++ drop r ss)
+      (λ r y z. elim r as (λ r. updated [] [] [] ≡ updated (take r []) (take r []) (take r []) ++ drop r []) [ zero ↦ refl | suc r ↦ refl ])
+      (λ s o n ss os ns e r. elim r as (λ r. Zeros r (o ∷ os) → Zeros r (n ∷ ns) → updated (s ∷ ss) (o ∷ os) (n ∷ ns) ≡ updated (take r (s ∷ ss)) (take r (o ∷ os)) (take r (n ∷ ns)) ++ drop r (s ∷ ss)) [
+        | zero ↦ λ y z.
+            let i : o ≡ 0 = y 0 (omega arith) in
+            let j : n ≡ 0 = z 0 (omega arith) in
+            let same : s - o + n ≡ s = omega arith in
+            rw same (ap (λ xs. s ∷ xs) (e 0 (λ k h. y (suc k) (omega arith)) (λ k h. z (suc k) (omega arith))))
+        | suc q ↦ λ y z. ap (λ xs. (s - o + n) ∷ xs) (e q (λ k h. y (suc k) (omega arith)) (λ k h. z (suc k) (omega arith)))
+      ])
+      sums old new w.same r w.old-rest w.new-rest
+
+-- ---- 19 as defined, of a list of 1,280 sums
 module _ (sums old new : List ℕ) where
   pub bad-length : (length sums ≡ sums_length → ⊥) → bad_sums sums old new ≡ true
   unfolding bad_sums
@@ -59,143 +171,70 @@ module _ (sums old new : List ℕ) where
   right-length e = eqb-true (length sums) sums_length (not-false _ (neither _ _ (neither _ _ e).0).0)
 
   module _ (size : length sums ≡ sums_length) (off : length old ≡ sums_length) (on : length new ≡ sums_length) where
-    less : List ℕ
-    less = zip_with ◌-◌ sums old
+    full : SameLength sums old new
+    full = record { old-long = off ∙ sym size; new-long = on ∙ sym size }
 
-    less-length : length less ≡ sums_length
-    unfolding less
-    less-length = zip_length ◌-◌ sums old (size ∙ sym off) ∙ size
+    pub bad-is : bad_sums sums old new ≡ some_past_an_end sums old new
+    unfolding bad_sums
+    bad-is = rw (eq-eqb (length sums) sums_length size) (sym (each-tested full))
 
     pub updated-length : length (updated sums old new) ≡ sums_length
-    unfolding updated less
-    updated-length = zip_length ◌+◌ less new (less-length ∙ sym on) ∙ less-length
+    updated-length = long full ∙ size
 
     pub updated-at : (k : ℕ) → k < sums_length → get_or (updated sums old new) k 0 ≡ get_or sums k 0 - get_or old k 0 + get_or new k 0
-    unfolding updated less
-    updated-at k h =
-        zip_at ◌+◌ less new k 0 (omega (arith, less-length)) (omega arith)
-        ∙ ap (λ (x : ℕ). x + get_or new k 0) (zip_at ◌-◌ sums old k 0 (omega arith) (omega arith))
-
-    -- ---- 19 by the numbers
-    lower : List Bool
-    lower = zip_with ltb sums old
-
-    upper : List Bool
-    upper = map (ltb most64) (updated sums old new)
-
-    lower-at : (k : ℕ) → k < sums_length → get_or lower k false ≡ ltb (get_or sums k 0) (get_or old k 0)
-    unfolding lower
-    lower-at k h = zip_at ltb sums old k false (omega arith) (omega arith)
-
-    upper-at : (k : ℕ) → k < sums_length → get_or upper k false ≡ ltb most64 (get_or sums k 0 - get_or old k 0 + get_or new k 0)
-    unfolding upper
-    upper-at k h = get_or-map (ltb most64) (updated sums old new) k 0 ∙ ap (ltb most64) (updated-at k h)
-
-    bad-is : bad_sums sums old new ≡ (any lower || any upper)
-    unfolding bad_sums lower upper
-    bad-is = rw (eq-eqb (length sums) sums_length size)
-
-    pub bad-at : (k : ℕ) → k < sums_length → past_an_end (get_or sums k 0) (get_or old k 0) (get_or new k 0) ≡ true → bad_sums sums old new ≡ true
-    bad-at k h e = bad-is ∙ go (ltb (get_or sums k 0) (get_or old k 0)) (lower-at k h) e
-      where
-        go : (t : Bool) → get_or lower k false ≡ t → (t || ltb most64 (get_or sums k 0 - get_or old k 0 + get_or new k 0)) ≡ true → (any lower || any upper) ≡ true
-        go true f g = rw (some-test lower k f)
-        go false f g = second_of_two (any lower) (some-test upper k (upper-at k h ∙ g))
+    updated-at k h = there full k (omega arith)
 
     pub not-bad : ((k : ℕ) → k < sums_length → past_an_end (get_or sums k 0) (get_or old k 0) (get_or new k 0) ≡ false) → bad_sums sums old new ≡ false
-    unfolding lower upper
-    not-bad h =
-        let both : (k : ℕ) → (l : k < sums_length) → _ = λ k l. neither (ltb (get_or sums k 0) (get_or old k 0)) (ltb most64 (get_or sums k 0 - get_or old k 0 + get_or new k 0)) (h k l) in
-        let few = zip_length ltb sums old (size ∙ sym off) in
-        bad-is
-        ∙ none_of_two
-        (no_test lower (λ k l. let m : k < sums_length = omega (arith, few) in lower-at k m ∙ (both k m).0))
-        (no_test upper (λ k l. let m : k < sums_length = omega (arith, length-map (updated sums old new) (ltb most64), updated-length) in upper-at k m ∙ (both k m).1))
+    not-bad h = bad-is ∙ past_nowhere full (λ k l. h k (omega arith))
 
     pub good-at : bad_sums sums old new ≡ false → (k : ℕ) → k < sums_length → Fits (get_or sums k 0) (get_or old k 0) (get_or new k 0)
-    good-at e k h =
-        let none = neither (any lower) (any upper) (sym bad-is ∙ e) in
-        past-neither _ _ _ (none_of_two (sym (lower-at k h) ∙ not-any lower none.0 k) (sym (upper-at k h) ∙ not-any upper none.1 k))
-
--- what is taken off, by place
-taken-length : (taken : Bool) (old : List ℕ) → length old ≡ sums_length → length (if_taken taken old) ≡ sums_length
-taken-length true old e = e
-taken-length false old e = length-replicate {A = ℕ} sums_length 0
-
-pub or_zero_lem : (taken : Bool) {x : ℕ} → x ≡ 0 → or_nothing taken x ≡ 0
-or_zero_lem true e = e
-or_zero_lem false e = refl
-
-pub or_none : (taken : Bool) (x : ℕ) → taken ≡ false → or_nothing taken x ≡ 0
-or_none taken x e = rw e
-
-taken_at : (taken : Bool) (old : List ℕ) (k : ℕ) → get_or (if_taken taken old) k 0 ≡ or_nothing taken (get_or old k 0)
-taken_at true old k = refl
-taken_at false old k = zero-at sums_length k
-
--- ---- an update that reaches only the first r places
-module _ {sums : List ℕ} {taken : Bool} {old new : List ℕ} {r : ℕ} (w : Within sums taken old new r) where
-  off-length : length (if_taken taken old) ≡ sums_length
-  off-length = taken-length taken old w.old-full
-
-  nothing-off : (k : ℕ) → r ≤ k → k < sums_length → get_or (if_taken taken old) k 0 ≡ 0
-  nothing-off k h l = taken_at taken old k ∙ w.old-rest k h l
-
-  -- what code has at a place, its sums being 64 bits wide
-  pub bad_there : (k : ℕ) → k < r → past_an_end (get_or sums k 0) (or_nothing taken (get_or old k 0)) (get_or new k 0) ≡ true → bad_sums sums (if_taken taken old) new ≡ true
-  bad_there k h e = bad-at sums (if_taken taken old) new w.count off-length w.full k (omega (arith, w.most)) (rw (taken_at taken old k) e)
-
-  pub bad_nowhere : ((k : ℕ) → get_or sums k 0 ≤ most64) → ((k : ℕ) → k < r → past_an_end (get_or sums k 0) (or_nothing taken (get_or old k 0)) (get_or new k 0) ≡ false)
-      → bad_sums sums (if_taken taken old) new ≡ false
-  bad_nowhere wide h = not-bad sums (if_taken taken old) new w.count off-length w.full (λ k l. elim (dec_lt k r) [
-    | yes m ↦ rw (taken_at taken old k) (h k m)
-    | no m ↦
-        let few = wide k in
-        rw (nothing-off k (omega arith) l, w.new-rest k (omega arith)) (none_of_two (le-ltb (get_or sums k 0) 0 (omega arith)) (le-ltb most64 (get_or sums k 0 - 0 + 0) (omega arith)))
-  ])
-
-  -- sums in the lower half have room for numbers of 32 bits
-  pub bad-none : ((k : ℕ) → get_or sums k 0 ≤ most64) → ((k : ℕ) → get_or new k 0 < 4294967296) → AllFar sums taken old r → bad_sums sums (if_taken taken old) new ≡ false
-  bad-none wide low far = bad_nowhere wide (λ k h.
-      let f = far k h in let few = low k in
-      let x = get_or sums k 0 in let o = or_nothing taken (get_or old k 0) in
-      none_of_two (le-ltb x o f.above) (le-ltb most64 (x - o + get_or new k 0) (omega (arith, f.room))))
-
-  pub whole_length : length (updated sums (if_taken taken old) new) ≡ sums_length
-  whole_length = updated-length sums (if_taken taken old) new w.count off-length w.full
-
-  module _ (k : ℕ) (l : k < sums_length) where
-    pub new_there : get_or (updated sums (if_taken taken old) new) k 0 ≡ get_or sums k 0 - or_nothing taken (get_or old k 0) + get_or new k 0
-    new_there = updated-at sums (if_taken taken old) new w.count off-length w.full k l ∙ rw (taken_at taken old k)
-
-    pub fits_there : bad_sums sums (if_taken taken old) new ≡ false → Fits (get_or sums k 0) (or_nothing taken (get_or old k 0)) (get_or new k 0)
-    fits_there e = subst (λ (x : ℕ). Fits (get_or sums k 0) x (get_or new k 0)) (taken_at taken old k) (good-at sums (if_taken taken old) new w.count off-length w.full e k l)
-
-    pub same-behind : r ≤ k → get_or (updated sums (if_taken taken old) new) k 0 ≡ get_or sums k 0
-    same-behind h = updated-at sums (if_taken taken old) new w.count off-length w.full k l ∙ rw (nothing-off k h l, w.new-rest k h) (omega arith)
+    good-at e k h = fits_there full (sym bad-is ∙ e) k (omega arith)
 
 -- ---- the update as a whole
-module _ (sums old new : List ℕ) where
-  pub update-refused : {bad : Bool} → bad ≡ bad_sums sums old new → bad ≡ true → Updates sums old new false sums
-  update-refused is e = let f = sym is ∙ e in record { answer = rw f; written = rw f }
+module _ {sums old new : List ℕ} where
+  pub update-refused : bad_sums sums old new ≡ true → Updates sums old new (Err BadYearSums) sums
+  update-refused e = record { answer = rw e; written = rw e }
 
-  pub update-made : {bad : Bool} → bad ≡ bad_sums sums old new → bad ≡ false → Updates sums old new true (updated sums old new)
-  update-made is e = let f = sym is ∙ e in record { answer = rw f; written = rw f }
+  pub update-made : bad_sums sums old new ≡ false → Updates sums old new (Ok tt) (updated sums old new)
+  update-made e = record { answer = rw e; written = rw e }
 
--- and what its answer tells
-module _ {sums old new after : List ℕ} where
-  pub update-false : {made : Bool} → Updates sums old new made after → made ≡ false → (bad_sums sums old new ≡ true) × (after ≡ sums)
-  update-false u e = let bad = not-false (bad_sums sums old new) (sym u.answer ∙ e) in (bad, u.written ∙ rw bad)
-
-  pub update-true : {made : Bool} → Updates sums old new made after → made ≡ true → (bad_sums sums old new ≡ false) × (after ≡ updated sums old new)
-  update-true u e = let good = not-true (bad_sums sums old new) (sym u.answer ∙ e) in (good, u.written ∙ rw good)
-
-pub within : {sums : List ℕ} {taken : Bool} {old new : List ℕ} {n r : ℕ} → Blocks old n new → Reach old taken (8 * n) r → length sums ≡ sums_length → Within sums taken old new r
+pub within : {sums old new : List ℕ} {n r : ℕ} → Blocks old n new → Reach old (8 * n) r → length sums ≡ sums_length → Within sums old new r
 within b h e = record {
   count = e;
-  old-full = b.old-full;
-  full = b.full;
+  same = record { old-long = b.old-full ∙ sym e; new-long = b.full ∙ sym e };
   most = h.most;
   old-rest = h.rest;
   new-rest = λ k l. b.rest k (omega (arith, h.least));
 }
+
+-- the first r sums and the rest as code leaves them
+module _ {sums old new : List ℕ} {r : ℕ} (w : Within sums old new r) (front : List ℕ) (fits : (k : ℕ) → get_or (front ++ drop r sums) k 0 ≤ most64) where
+  bad-in_front : length front ≡ length (take r sums) → bad_sums sums old new ≡ some_past_an_end (take r sums) (take r old) (take r new)
+  bad-in_front size =
+      bad-is sums old new w.count (w.same.old-long ∙ w.count) (w.same.new-long ∙ w.count)
+      ∙ past_in_front w (λ k h.
+      let same : r + (k - r) ≡ k = omega arith in
+      let at = get_or-append_right front (drop r sums) r k 0 (size ∙ front-length w) h ∙ get_or-drop r sums (k - r) 0 in
+      omega (arith, rw same at at, fits k))
+
+  pub update-refused_in_front : front ≡ take r sums → some_past_an_end (take r sums) (take r old) (take r new) ≡ true → Updates sums old new (Err BadYearSums) (front ++ drop r sums)
+  update-refused_in_front e f = let bad = bad-in_front (ap length e) ∙ f in rw (e, take-append-drop r sums) (update-refused bad)
+
+  pub update-made_in_front : front ≡ updated (take r sums) (take r old) (take r new) → some_past_an_end (take r sums) (take r old) (take r new) ≡ false → Updates sums old new (Ok tt) (front ++ drop r sums)
+  update-made_in_front e f = let good = bad-in_front (ap length e ∙ long (fronts w)) ∙ f in rw (e, ← updated_in_front w) (update-made good)
+
+-- and what its answer tells
+err_tells : (bad : Bool) {e : Refusal} → ◌≡◌ {A = Result (Unit {0}) Refusal} (Err e) (if bad then Err BadYearSums else Ok tt) → (bad ≡ true) × (e ≡ BadYearSums)
+err_tells true h = (refl, cc)
+err_tells false h = absurd (cc)
+
+ok_tells : (bad : Bool) → ◌≡◌ {A = Result (Unit {0}) Refusal} (Ok tt) (if bad then Err BadYearSums else Ok tt) → bad ≡ false
+ok_tells true h = absurd (cc)
+ok_tells false h = refl
+
+module _ {sums old new after : List ℕ} where
+  pub update-err : {e : Refusal} → Updates sums old new (Err e) after → (bad_sums sums old new ≡ true) × (e ≡ BadYearSums) × (after ≡ sums)
+  update-err u = let t = err_tells (bad_sums sums old new) u.answer in let bad = t.0 in (bad, t.1, u.written ∙ rw bad)
+
+  pub update-ok : Updates sums old new (Ok tt) after → (bad_sums sums old new ≡ false) × (after ≡ updated sums old new)
+  update-ok u = let good = ok_tells (bad_sums sums old new) u.answer in (good, u.written ∙ rw good)

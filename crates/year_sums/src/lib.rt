@@ -2,6 +2,5 @@
 #![tactic(auto)]
 
 mod list;
-mod places;
 
 pub use list::{clear, update};

@@ -1,13 +1,13 @@
 -- Each outcome of each call, by the tests on the way to it: what its contract says there. Assumes nothing.
 use mathlib.Core.Path.{◌≡◌, refl, ◌∙◌}
-use mathlib.Core.Bool.{Bool, true, false}
+use mathlib.Core.Bool.{true, false}
 use mathlib.Core.List.{List, [], ◌∷◌}
 use Prim.Native.Nat.{ℕ, ◌-◌, ◌≤◌, ◌<◌}
 use borrow.Author.Tests.{lt-ltb, le-ltb, eq-eqb, ne_eqb}
 use lib.ListN.{length}
 use Rattle.sheet.specs.declared.refusal.Refusal.{Refusal}
 use Rattle.sheet.specs.declared.refusal.Refusal.TheVariants.{BadYearBook, OtherBuilding, MonthState, NoSuchUnit, BadYearSums}
-use Rattle.sheet.specs.declared.refusal.Outcome.TheVariants.{Accepted, Refused}
+use Rattle.std.specs.Prelude.{Ok, Err}
 use Rattle.sheet.specs.Refusals.{Rule, ◌⇒◌, first_refusal}
 use Rattle.sheet.specs.RuleSets.{newest}
 use Rattle.sheet.specs.Layout.{sheet_of}
@@ -18,103 +18,100 @@ use Rattle.month.proofs.Laws.{settled-month}
 use Rattle.yearbook.specs.Calls.{withdraw, accepted, refused}
 use Rattle.year_sums.specs.YearSums.{sums_length, zero_sums, updated, wrong_sums, bad_sums}
 use Rattle.yearbook.specs.LentBook.{sums_at}
-use Rattle.yearbook.specs.LentBook.{Lent, lent, book_length, unit_count_in, marked, bad_book, other_building, block_in, block_of, zero_block, sheet_call_rules, clear_month, fresh_book, open_answer, opened, with_sheet, post_answer, posted, replace_answer, replaced, withdraw_answer, withdrawn, year_rules, year_outcome, marks_in, year_answer, lent_reply, lent_after, Opens, Answered, refused_totals, totals_by, Tells}
+use Rattle.yearbook.specs.LentBook.{Lent, lent, book_length, unit_count_in, marked, bad_book, other_building, block_in, block_of, zero_block, sheet_call_rules, clear_month, fresh_book, open_answer, opened, with_sheet, post_answer, posted, replace_answer, replaced, withdraw_answer, withdrawn, year_rules, year_outcome, marks_in, year_answer, lent_reply, lent_after, Opens, Answered, totals_by, Tells}
+use Rattle.yearbook.specs.declared.bring.Entry.{Entry}
+use Rattle.yearbook.specs.declared.bring.Entry.TheVariants.{Post, Replace}
 use Rattle.yearbook.specs.Inner.Bring.{bring_call, wrong_month, taken_off}
 
 -- ---- open
 module _ (l : Lent) (sheet : List ℕ) where
-  pub open_15 : (length l.book ≡ book_length → ⊥) → Opens l sheet (Refused BadYearBook) l
+  pub open_15 : (length l.book ≡ book_length → ⊥) → Opens l sheet (Err BadYearBook) l
   unfolding open_answer opened first_refusal
   open_15 h = let e = ne_eqb (length l.book) book_length h in record { answer = rw e; after = rw e }
 
   module _ (size : length l.book ≡ book_length) where
-    pub open_refused : (r : Refusal) → checked 32 sheet ≡ Refused r → Opens l sheet (Refused r) l
+    pub open_refused : (r : Refusal) → checked 32 sheet ≡ Err r → Opens l sheet (Err r) l
     unfolding open_answer opened first_refusal checked
     open_refused r h =
         let e = eq-eqb (length l.book) book_length size in let f = first-refused (sheet_rules 32 sheet) ((wrong_sums l.sums ⇒ BadYearSums) ∷ []) h in
         record { answer = rw (e, f); after = rw (e, f) }
 
-    module _ (passes : checked 32 sheet ≡ Accepted) where
-      pub open_19 : (length l.sums ≡ sums_length → ⊥) → Opens l sheet (Refused BadYearSums) l
+    module _ (passes : checked 32 sheet ≡ Ok tt) where
+      pub open_19 : (length l.sums ≡ sums_length → ⊥) → Opens l sheet (Err BadYearSums) l
       unfolding open_answer opened first_refusal checked
       open_19 h =
           let e = eq-eqb (length l.book) book_length size in let f = first-accepted (sheet_rules 32 sheet) ((wrong_sums l.sums ⇒ BadYearSums) ∷ []) passes in let g = ne_eqb (length l.sums) sums_length h in
           record { answer = rw (e, f, g); after = rw (e, f, g) }
 
-      pub open_accepted : length l.sums ≡ sums_length → Opens l sheet Accepted (lent (fresh_book sheet) zero_sums)
+      pub open_accepted : length l.sums ≡ sums_length → Opens l sheet (Ok tt) (lent (fresh_book sheet) zero_sums)
       unfolding open_answer opened first_refusal checked
       open_accepted h =
           let e = eq-eqb (length l.book) book_length size in let f = first-accepted (sheet_rules 32 sheet) ((wrong_sums l.sums ⇒ BadYearSums) ∷ []) passes in let g = eq-eqb (length l.sums) sums_length h in
           record { answer = rw (e, f, g); after = rw (e, f, g) }
 
 -- ---- post and replace
-module _ (replacing : Bool) (l : Lent) (sheet : List ℕ) where
-  rules : Bool → List Rule
+module _ (entry : Entry) (l : Lent) (sheet : List ℕ) where
+  rules : Entry → List Rule
   rules w = sheet_call_rules l sheet (wrong_month w l.book sheet) (taken_off w l.book sheet)
 
-  by_refusal : {r : Refusal} → first_refusal (rules replacing) ≡ Refused r → Answered l (bring_call replacing sheet) (refused r) l
+  by_refusal : {r : Refusal} → first_refusal (rules entry) ≡ Err r → Answered l (bring_call entry sheet) (refused r) l
   unfolding rules lent_reply lent_after post_answer posted replace_answer replaced
-  by_refusal {r} = go replacing
+  by_refusal {r} = go entry
     where
-      go : (w : Bool) → first_refusal (rules w) ≡ Refused r → Answered l (bring_call w sheet) (refused r) l
-      go false e = record { reply = rw e; after = rw e }
-      go true e = record { reply = rw e; after = rw e }
+      go : (w : Entry) → first_refusal (rules w) ≡ Err r → Answered l (bring_call w sheet) (refused r) l
+      go Post e = record { reply = rw e; after = rw e }
+      go Replace e = record { reply = rw e; after = rw e }
 
-  pub bring_15 : bad_book l.book ≡ true → Answered l (bring_call replacing sheet) (refused BadYearBook) l
+  pub bring_15 : bad_book l.book ≡ true → Answered l (bring_call entry sheet) (refused BadYearBook) l
   unfolding rules sheet_call_rules first_refusal
   bring_15 e = by_refusal (rw e)
 
   module _ (sound : bad_book l.book ≡ false) where
-    pub bring_refused : (r : Refusal) → first_refusal (settle_rules sheet) ≡ Refused r → Answered l (bring_call replacing sheet) (refused r) l
+    pub bring_refused : (r : Refusal) → first_refusal (settle_rules sheet) ≡ Err r → Answered l (bring_call entry sheet) (refused r) l
     unfolding rules sheet_call_rules first_refusal
     bring_refused r e = by_refusal (rw sound (first-refused (settle_rules sheet) _ e))
 
     -- 1 to 7
-    pub bring_unchecked : (r : Refusal) → checked 32 sheet ≡ Refused r → Answered l (bring_call replacing sheet) (refused r) l
+    pub bring_unchecked : (r : Refusal) → checked 32 sheet ≡ Err r → Answered l (bring_call entry sheet) (refused r) l
     unfolding settle_rules checked
     bring_unchecked r e = bring_refused r (first-refused (sheet_rules 32 sheet) (month_rules (sheet_of sheet)) e)
 
-    -- 8 to 12
-    pub bring_unsettled : (r : Refusal) → checked 32 sheet ≡ Accepted → first_refusal (month_rules (sheet_of sheet)) ≡ Refused r → Answered l (bring_call replacing sheet) (refused r) l
-    unfolding settle_rules checked
-    bring_unsettled r passes e = bring_refused r (first-accepted (sheet_rules 32 sheet) (month_rules (sheet_of sheet)) passes ∙ e)
-
     module _ (m : Month) (settles : settled_sheet newest sheet ≡ Settled.settled m) where
-      behind : first_refusal (rules replacing)
+      behind : first_refusal (rules entry)
           ≡ first_refusal
           ((other_building l.book (sheet_of sheet) ⇒ OtherBuilding)
-          ∷ (wrong_month replacing l.book sheet ⇒ MonthState)
-          ∷ (bad_sums l.sums (taken_off replacing l.book sheet) (block_of sheet) ⇒ BadYearSums)
+          ∷ (wrong_month entry l.book sheet ⇒ MonthState)
+          ∷ (bad_sums l.sums (taken_off entry l.book sheet) (block_of sheet) ⇒ BadYearSums)
           ∷ [])
       unfolding rules sheet_call_rules first_refusal
       behind = rw sound (first-accepted (settle_rules sheet) _ (settled-month newest sheet m settles).0)
 
-      pub bring_16 : other_building l.book (sheet_of sheet) ≡ true → Answered l (bring_call replacing sheet) (refused OtherBuilding) l
+      pub bring_16 : other_building l.book (sheet_of sheet) ≡ true → Answered l (bring_call entry sheet) (refused OtherBuilding) l
       unfolding first_refusal
       bring_16 e = by_refusal (behind ∙ rw e)
 
       module _ (same : other_building l.book (sheet_of sheet) ≡ false) where
-        pub bring_17 : wrong_month replacing l.book sheet ≡ true → Answered l (bring_call replacing sheet) (refused MonthState) l
+        pub bring_17 : wrong_month entry l.book sheet ≡ true → Answered l (bring_call entry sheet) (refused MonthState) l
         unfolding first_refusal
         bring_17 h = by_refusal (behind ∙ rw (same, h))
 
-        module _ (right : wrong_month replacing l.book sheet ≡ false) where
-          pub bring_19 : bad_sums l.sums (taken_off replacing l.book sheet) (block_of sheet) ≡ true → Answered l (bring_call replacing sheet) (refused BadYearSums) l
+        module _ (right : wrong_month entry l.book sheet ≡ false) where
+          pub bring_19 : bad_sums l.sums (taken_off entry l.book sheet) (block_of sheet) ≡ true → Answered l (bring_call entry sheet) (refused BadYearSums) l
           unfolding first_refusal
           bring_19 h = by_refusal (behind ∙ rw (same, right, h))
 
-          pub bring_accepted : bad_sums l.sums (taken_off replacing l.book sheet) (block_of sheet) ≡ false
-              → Answered l (bring_call replacing sheet) accepted (with_sheet l sheet (taken_off replacing l.book sheet))
+          pub bring_accepted : bad_sums l.sums (taken_off entry l.book sheet) (block_of sheet) ≡ false
+              → Answered l (bring_call entry sheet) accepted (with_sheet l sheet (taken_off entry l.book sheet))
           unfolding rules first_refusal lent_reply lent_after post_answer posted replace_answer replaced
-          bring_accepted h = go replacing (behind ∙ rw (same, right, h))
+          bring_accepted h = go entry (behind ∙ rw (same, right, h))
             where
-              go : (w : Bool) → first_refusal (rules w) ≡ Accepted → Answered l (bring_call w sheet) accepted (with_sheet l sheet (taken_off w l.book sheet))
-              go false k = record { reply = rw k; after = rw k }
-              go true k = record { reply = rw k; after = rw k }
+              go : (w : Entry) → first_refusal (rules w) ≡ Ok tt → Answered l (bring_call w sheet) accepted (with_sheet l sheet (taken_off w l.book sheet))
+              go Post k = record { reply = rw k; after = rw k }
+              go Replace k = record { reply = rw k; after = rw k }
 
 -- ---- withdraw
 module _ (l : Lent) (month : ℕ) where
-  withdraw-by : {r : Refusal} → withdraw_answer l month ≡ Refused r → Answered l (withdraw month) (refused r) l
+  withdraw-by : {r : Refusal} → withdraw_answer l month ≡ Err r → Answered l (withdraw month) (refused r) l
   unfolding lent_reply lent_after withdrawn
   withdraw-by e = record { reply = rw e; after = rw e }
 
@@ -151,26 +148,25 @@ module _ (l : Lent) (month : ℕ) where
 
 -- ---- year
 module _ (l : Lent) (place : ℕ) where
-  -- the reply by value
-  by-outcome : {r : Refusal} → year_outcome l place ≡ Refused r → Tells l place (refused_totals r)
+  by-outcome : {r : Refusal} → year_outcome l place ≡ Err r → Tells l place (Err r)
   unfolding lent_reply lent_after year_answer
   by-outcome e = record { answered = record { reply = rw e; after = refl }; whole = rw e }
 
-  pub tells_15 : bad_book l.book ≡ true → Tells l place (refused_totals BadYearBook)
+  pub tells_15 : bad_book l.book ≡ true → Tells l place (Err BadYearBook)
   unfolding year_outcome year_rules first_refusal
   tells_15 e = by-outcome (rw e)
 
   module _ (sound : bad_book l.book ≡ false) where
-    pub tells_18 : unit_count_in l.book ≤ place → Tells l place (refused_totals NoSuchUnit)
+    pub tells_18 : unit_count_in l.book ≤ place → Tells l place (Err NoSuchUnit)
     unfolding year_outcome year_rules first_refusal
     tells_18 h = by-outcome (rw (sound, le-ltb place (unit_count_in l.book) h))
 
     module _ (there : place < unit_count_in l.book) where
-      pub tells_19 : (length l.sums ≡ sums_length → ⊥) → Tells l place (refused_totals BadYearSums)
+      pub tells_19 : (length l.sums ≡ sums_length → ⊥) → Tells l place (Err BadYearSums)
       unfolding year_outcome year_rules first_refusal
       tells_19 h = by-outcome (rw (sound, lt-ltb place (unit_count_in l.book) there, ne_eqb (length l.sums) sums_length h))
 
-      pub tells_totals : length l.sums ≡ sums_length → Tells l place (totals_by Accepted (marks_in l.book) (sums_at l.sums place))
+      pub tells_totals : length l.sums ≡ sums_length → Tells l place (totals_by (Ok tt) (marks_in l.book) (sums_at l.sums place))
       unfolding lent_reply lent_after year_answer year_outcome year_rules first_refusal
       tells_totals h =
           let f = lt-ltb place (unit_count_in l.book) there in let g = eq-eqb (length l.sums) sums_length h in

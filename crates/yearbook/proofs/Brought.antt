@@ -1,108 +1,97 @@
--- What open, post and replace know of a sheet that passes 1 to 7, and of one that settles. Assumes nothing.
-use mathlib.Core.Path.{◌≡◌, sym, ap, ap₂, ◌∙◌}
+-- What post and replace know of a sheet once it is settled. Assumes nothing.
+use mathlib.Core.Path.{◌≡◌, refl, sym, ap, ap₂, ◌∙◌}
 use mathlib.Core.Bool.{Bool}
 use mathlib.Core.List.{List, ◌++◌}
 use Prim.Native.Nat.{ℕ, ◌*◌, ◌-◌, ◌≤◌}
 use native.Mathlib.Omega.{arith}
-use lib.ListN.{length, get_or, take, drop, replicate, get_or-eq_default}
+use borrow.Author.Tests.{eq-eqb}
+use lib.ListN.{length, take, drop, replicate, get_or-eq_default, length-replicate}
 use lib.Seq.{length-take-le}
+use Rattle.std.specs.Prelude.{Ok, Err, MatchResult}
+use Rattle.std.proofs.lemmas.List.{drop-replicate}
 use Rattle.sheet.specs.declared.refusal.Refusal.{Refusal}
-use Rattle.sheet.specs.declared.refusal.Outcome.{Outcome}
-use Rattle.sheet.specs.declared.refusal.Outcome.TheVariants.{Accepted, Refused}
-use Rattle.sheet.specs.Refusals.{first_refusal}
+use Rattle.sheet.specs.Refusals.{Outcome, first_refusal}
 use Rattle.sheet.specs.RuleSets.{newest}
 use Rattle.sheet.specs.Layout.{sheet_of}
-use Rattle.sheet.specs.Check.{checked}
-use Rattle.sheet.specs.Inner.Fits.{Fits}
-use Rattle.sheet.proofs.Fits.{fits}
-use Rattle.month.specs.Month.{bill_cents, statement_of, month_rules}
-use Rattle.month.proofs.Accepted.{fits-checked}
-use Rattle.month.proofs.Bounds.{sum_bounds}
+use Rattle.month.specs.Month.{Settled, bill_cents, month_of, statement_of, settle_rules, settled_sheet}
 use Rattle.settlement.specs.Settle.{settle_answer, statement_after}
-use Rattle.settlement.proofs.Answers.{answer-is, settles, statement-is}
-use Rattle.settlement.proofs.Parts.{rest_untouched}
-use Rattle.yearbook.specs.LentBook.{book_length, mark_at, block_length, put_month, put_sheet}
-use Rattle.yearbook.specs.Inner.Rows.{HoldsRows}
-use Rattle.yearbook.specs.Inner.Bring.{wrong_mark, wrong_month, NewBlock, Passed, Brings}
-use Rattle.yearbook.proofs.Sound.{book-sound}
+use Rattle.year_sums.specs.Inner.Update.{Blocks}
+use Rattle.yearbook.specs.declared.bring.Entry.{Entry}
+use Rattle.yearbook.specs.declared.bring.Entry.TheVariants.{Post, Replace}
+use Rattle.yearbook.specs.LentBook.{block_length, marked, block_in, put_month, put_sheet}
+use Rattle.yearbook.specs.Inner.Bring.{wrong_state, wrong_month, old_block, taken_off, Settles}
 use Rattle.yearbook.proofs.Stores.{zeros-after}
-use Rattle.yearbook.proofs.Settled.{statement-length, block_length_lem}
+use Rattle.yearbook.proofs.Settled.{sheet-refused, own-month, statement-length, block_length_lem}
 
--- ---- a sheet that passes 1 to 7
-pub checked-rows : (sheet : List ℕ) (n : ℕ) → n ≡ (sheet_of sheet).unit_count → checked 32 sheet ≡ Accepted → HoldsRows sheet n
-checked-rows sheet n e h =
-    let f = fits 32 sheet h in
-    record { count = e; few = omega (arith, f.header.unit_count); size = rw e f.byte_count }
+-- ---- a sheet is settled into the front of a block of zeros
+abbrev pub front_of : ℕ → List ℕ
+front_of n = take (8 * n) (replicate block_length 0)
 
--- ---- it is settled into a part of a block of zeros
-abbrev pub part_of : ℕ → List ℕ
-part_of n = take (8 * n) (replicate block_length 0)
+module _ (sheet : List ℕ) (n : ℕ) (few : n ≤ 160) (count : n ≡ (sheet_of sheet).unit_count) where
+  front-length : length (front_of n) ≡ 8 * n
+  front-length = length-take-le (8 * n) (replicate block_length 0) (omega (arith, length-replicate {A = ℕ} block_length 0))
 
-module _ {b sheet : List ℕ} (h : Passed b sheet) (n : ℕ) (count : n ≡ (sheet_of sheet).unit_count) where
-  pub part-fits : 8 * n ≤ block_length
-  part-fits = omega (arith, (fits 32 sheet h.checked-sheet).header.unit_count)
+  when-refused : (r : Refusal) → settled_sheet newest sheet ≡ Settled.refused r → settle_answer newest sheet (front_of n) ≡ Err r
+  unfolding settle_answer
+  when-refused r e = rw e
 
-  pub part_length : length (part_of n) ≡ 8 * n
-  part_length = length-take-le (8 * n) (replicate block_length 0) part-fits
+  when-settled : settled_sheet newest sheet ≡ Settled.settled (month_of newest (sheet_of sheet))
+      → (settle_answer newest sheet (front_of n) ≡ Ok tt) × (statement_after newest sheet (front_of n) ≡ statement_of newest (sheet_of sheet))
+  unfolding settle_answer statement_after month_of
+  when-settled e = rw (e, eq-eqb (length (front_of n)) (8 * (sheet_of sheet).unit_count) (omega (arith, front-length))) (refl, refl)
 
-  room : length (part_of n) ≡ 8 * (sheet_of sheet).unit_count
-  room = omega (arith, part_length)
+  front-refused : (r : Refusal) → settle_answer newest sheet (front_of n) ≡ Err r → first_refusal (settle_rules sheet) ≡ Err r
+  front-refused r h = go (settled_sheet newest sheet) refl
+    where
+      go : (s : Settled) → settled_sheet newest sheet ≡ s → first_refusal (settle_rules sheet) ≡ Err r
+      go (Settled.refused q) e = sheet-refused sheet q e ∙ sym (when-refused q e) ∙ h
+      go (Settled.settled m) e = cc (h, (when-settled (own-month sheet e)).0)
 
-  module _ (o : Outcome) (is : o ≡ settle_answer newest sheet (part_of n)) where
-    pub part-refused : (r : Refusal) → o ≡ Refused r → first_refusal (month_rules (sheet_of sheet)) ≡ Refused r
-    part-refused r e = sym (answer-is newest sheet _ h.checked-sheet room) ∙ sym is ∙ e
+  front-settled : Ok tt ≡ settle_answer newest sheet (front_of n) → (front : List ℕ) → front ≡ statement_after newest sheet (front_of n)
+      → Settles sheet (front ++ drop (8 * n) (replicate block_length 0))
+  front-settled h front written = go (settled_sheet newest sheet) refl
+    where
+      go : (s : Settled) → settled_sheet newest sheet ≡ s → Settles sheet (front ++ drop (8 * n) (replicate block_length 0))
+      go (Settled.refused q) e = cc (h, when-refused q e)
+      go (Settled.settled m) e =
+          let own = own-month sheet e in
+          record {
+            settles = own;
+            block-is = ap₂ (λ (x y : List ℕ). x ++ y) (written ∙ (when-settled own).1) (drop-replicate (8 * n) block_length 0 ∙ ap (λ (k : ℕ). replicate (block_length - 8 * k) 0) count);
+          }
 
-    pub part-settled : o ≡ Accepted → (last : List ℕ) → last ≡ statement_after newest sheet (part_of n) → Brings b sheet (last ++ drop (8 * n) (replicate block_length 0))
-    part-settled ok last e =
-        let written = statement-is newest sheet _ h.checked-sheet room (sym is ∙ ok) in
-        let zeros = rest_untouched (8 * n) block_length 0 ∙ ap (λ (k : ℕ). replicate (block_length - 8 * k) 0) count in
-        record {
-          passed = h;
-          settles = settles newest sheet _ h.checked-sheet room (sym is ∙ ok);
-          block-is = ap₂ (λ (x y : List ℕ). x ++ y) (e ∙ written) zeros;
-        }
+  pub block-settled : (o : Outcome) → o ≡ settle_answer newest sheet (front_of n) → (front : List ℕ) → front ≡ statement_after newest sheet (front_of n)
+      → MatchResult o (λ done. Settles sheet (front ++ drop (8 * n) (replicate block_length 0))) (λ r. first_refusal (settle_rules sheet) ≡ Err r)
+  block-settled (Ok done) h front written = front-settled h front written
+  block-settled (Err r) h front written = front-refused r (sym h)
 
--- ---- a sheet that settles
-module _ {b sheet block : List ℕ} (h : Brings b sheet block) where
-  pub brings_size : length b ≡ book_length
-  brings_size = (book-sound b h.passed.sound).size
+-- ---- 17, and what a call takes off, as code finds them
+module _ (entry : Entry) (b sheet : List ℕ) {month : ℕ} (month-is : month ≡ (sheet_of sheet).month) where
+  pub state_is : {stands wrong : Bool} → stands ≡ marked b (month - 1) → wrong ≡ wrong_state entry stands → wrong_month entry b sheet ≡ wrong
+  state_is e f = rw (f, e, month-is)
 
-  pub brings_fits : Fits 32 sheet
-  brings_fits = fits 32 sheet h.passed.checked-sheet
+  pub off_is : {stored old : List ℕ} → stored ≡ block_in b (month - 1) → old ≡ old_block entry stored → old ≡ taken_off entry b sheet
+  off_is e f = rw (f, e, month-is)
 
-  pub brings_rows : (n : ℕ) → n ≡ (sheet_of sheet).unit_count → HoldsRows sheet n
-  brings_rows n e = checked-rows sheet n e h.passed.checked-sheet
+pub old-full : (entry : Entry) (stored : List ℕ) → length stored ≡ block_length → length (old_block entry stored) ≡ block_length
+old-full Post stored e = length-replicate {A = ℕ} block_length 0
+old-full Replace stored e = e
 
-  pub brings_bill : bill_cents (sheet_of sheet) ≤ 400000000
-  brings_bill = (sum_bounds (sheet_of sheet) (fits-checked brings_fits)).bill
+-- ---- the new block, and its write
+module _ {sheet block : List ℕ} (f : Settles sheet block) where
+  pub settles_full : length block ≡ block_length
+  settles_full = rw f.block-is (block_length_lem sheet f.settles)
 
-  pub brings_block : length block ≡ block_length
-  brings_block = rw h.block-is (block_length_lem sheet h.settles)
+  pub settles_blocks : (n : ℕ) → n ≤ 160 → n ≡ (sheet_of sheet).unit_count → (old : List ℕ) → length old ≡ block_length → Blocks old n block
+  settles_blocks n few count old full = record {
+    old-full = full;
+    few = few;
+    full = settles_full;
+    rest = λ k l. rw f.block-is (zeros-after (statement_of newest (sheet_of sheet)) (block_length - 8 * (sheet_of sheet).unit_count) k
+        ∙ get_or-eq_default (statement_of newest (sheet_of sheet)) 0 (omega (arith, statement-length sheet f.settles)));
+  }
 
-  -- what an update of the sums relies on
-  pub brings_new : (month n : ℕ) → month ≡ (sheet_of sheet).month → n ≡ (sheet_of sheet).unit_count → NewBlock b (month - 1) n block
-  brings_new month n e f =
-      let head = brings_fits.header in
-      record {
-        size = brings_size;
-        low = omega (arith, head.month);
-        few = omega (arith, head.unit_count);
-        full = brings_block;
-        rest = λ k l. rw h.block-is (zeros-after (statement_of newest (sheet_of sheet)) (block_length - 8 * (sheet_of sheet).unit_count) k
-            ∙ get_or-eq_default (statement_of newest (sheet_of sheet)) 0 (omega (arith, statement-length sheet h.settles)));
-      }
-
-  module _ (month : ℕ) (month-is : month ≡ (sheet_of sheet).month) where
-    pub brings_low : 1 ≤ month
-    brings_low = omega (arith, brings_fits.header.month_low)
-
-    pub brings_high : month ≤ 12
-    brings_high = omega (arith, brings_fits.header.month)
-
-    -- 17 by the mark that code reads
-    pub brings_wrong : (replacing : Bool) → wrong_month replacing b sheet ≡ wrong_mark replacing (get_or b (mark_at (month - 1)) 0)
-    brings_wrong replacing = rw month-is
-
-    pub brings_write : (meter bill : ℕ) → meter ≡ (sheet_of sheet).shared_meter → bill ≡ bill_cents (sheet_of sheet) → put_month b (month - 1) 1 meter bill block ≡ put_sheet b sheet
-    unfolding put_sheet
-    brings_write meter bill e f = rw (month-is, e, f, h.block-is)
+  pub settles_write : (b : List ℕ) (month meter bill : ℕ) → month ≡ (sheet_of sheet).month → meter ≡ (sheet_of sheet).shared_meter → bill ≡ bill_cents (sheet_of sheet)
+      → put_month b (month - 1) 1 meter bill block ≡ put_sheet b sheet
+  unfolding put_sheet
+  settles_write b month meter bill d e g = rw (d, e, g, f.block-is)

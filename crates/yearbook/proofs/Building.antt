@@ -1,6 +1,6 @@
 -- Refusal 16: two lists of ids, item by item, and the book's building. Assumes nothing.
 use mathlib.Core.Path.{◌≡◌, refl, sym, ap₂, ◌∙◌}
-use mathlib.Core.Bool.{Bool, true, false, ◌&&◌}
+use mathlib.Core.Bool.{Bool, true, false, not, ◌&&◌}
 use mathlib.Core.List.{List, [], ◌∷◌, map}
 use Prim.Native.Nat.{ℕ, zero, suc, ◌<◌}
 use native.Mathlib.Omega.{arith}
@@ -48,11 +48,6 @@ module _ (b : List ℕ) (s : Sheet) where
   unfolding other_building
   other_count h = rw (ne_eqb (unit_count_in b) s.unit_count h)
 
-  module _ (count : unit_count_in b ≡ s.unit_count) where
-    pub other_ids : same_list (take s.unit_count (drop ids_at b)) (map (λ u. u.id) s.units) ≡ false → other_building b s ≡ true
-    unfolding other_building
-    other_ids e = rw (count, eq-eqb s.unit_count s.unit_count refl, e)
-
-    pub same-building : same_list (take s.unit_count (drop ids_at b)) (map (λ u. u.id) s.units) ≡ true → other_building b s ≡ false
-    unfolding other_building
-    same-building e = rw (count, eq-eqb s.unit_count s.unit_count refl, e)
+  pub by-ids : unit_count_in b ≡ s.unit_count → other_building b s ≡ not (same_list (take s.unit_count (drop ids_at b)) (map (λ u. u.id) s.units))
+  unfolding other_building
+  by-ids count = rw (count, eq-eqb s.unit_count s.unit_count refl)

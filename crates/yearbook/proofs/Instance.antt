@@ -7,7 +7,7 @@ use lib.ListN.{get_or, take, replicate, length-replicate}
 use Rattle.apportion.specs.Shares.{shares_by}
 use Rattle.sheet.specs.Tests.{all, any}
 use Rattle.sheet.specs.Refusals.{first_refusal}
-use Rattle.sheet.specs.declared.refusal.Outcome.TheVariants.{Accepted}
+use Rattle.std.specs.Prelude.{Ok}
 use Rattle.sheet.specs.RuleSets.{newest}
 use Rattle.sheet.specs.Layout.{in_bytes, unit_row, rows, sheet_of}
 use Rattle.sheet.specs.Check.{header_tests, row_tests, field_rules, row_rules, sheet_rules, checked}
@@ -57,7 +57,7 @@ calls = map call_of run
 last : Lent
 last = after_all start calls
 
-passes : checked 32 opening ≡ Accepted
+passes : checked 32 opening ≡ Ok tt
 unfolding opening overcharged unit_bytes joined sheet_bytes in_bytes first_refusal unit_row rows sheet_of header_tests row_tests field_rules row_rules sheet_rules checked
 passes = refl
 
@@ -80,7 +80,7 @@ six : List Call
 six = post january ∷ replace january ∷ post december ∷ replace december ∷ withdraw 1 ∷ withdraw 12 ∷ []
 
 record Said : Type 0 where
-  opens : open_answer sevens opening ≡ Accepted
+  opens : open_answer sevens opening ≡ Ok tt
   replies : map answer_of (replies_of start calls) ≡ map expected run
   -- the months that stand, and the year calls of both units: 1,050 Wh and 11 cents
   stand : standing plain ≡ january ∷ december ∷ []

@@ -1,4 +1,5 @@
 -- The laws of the year book.
+pub mod Handed
 pub mod Stores
 pub mod Sums
 pub mod Sound

@@ -1,21 +1,22 @@
 -- 2026-02 (specs/Matches.antt): opening leaves lists that match, and every call keeps them matching. Assumes nothing.
 use mathlib.Core.Path.{◌≡◌, refl, sym, ap, subst, ◌∙◌}
 use mathlib.Core.Logic.{◌≢◌, inl}
-use mathlib.Core.Bool.{Bool, true, false}
+use mathlib.Core.Bool.{false}
 use mathlib.Core.List.{List}
 use Prim.Native.Nat.{ℕ, zero, suc, ◌+◌, ◌-◌, ◌<◌}
 use native.Mathlib.Omega.{arith}
 use native.Mathlib.Decide.{ℕ_discrete}
 use lib.ListN.{length, get_or, length-replicate}
-use Rattle.sheet.specs.declared.refusal.Outcome.{Outcome}
-use Rattle.sheet.specs.declared.refusal.Outcome.TheVariants.{Accepted, Refused}
-use Rattle.sheet.specs.Refusals.{afterwards}
+use Rattle.sheet.specs.Refusals.{Outcome, afterwards}
+use Rattle.std.specs.Prelude.{Ok, Err}
 use Rattle.month.specs.Laws.{sum_to}
 use Rattle.month.proofs.Lists.{sum_to_cong}
 use Rattle.yearbook.specs.Calls.{Call, post, replace, withdraw, year}
 use Rattle.year_sums.specs.YearSums.{sums_length, zero_sums, updated, bad_sums}
 use Rattle.yearbook.specs.LentBook.{Lent, lent, book_length, mark_at, block_at, block_length, block_in, block_of, zero_block, place_of_month, put_month, put_sheet, clear_month, fresh_book, opened, post_answer, posted, replace_answer, replaced, with_sheet, withdraw_answer, withdrawn, if_marked, lent_after}
 use Rattle.yearbook.specs.Matches.{block_sum, Matches, OpenedMatch, MatchKept}
+use Rattle.yearbook.specs.declared.bring.Entry.{Entry}
+use Rattle.yearbook.specs.declared.bring.Entry.TheVariants.{Post, Replace}
 use Rattle.yearbook.specs.Inner.Bring.{taken_off}
 use Rattle.year_sums.proofs.Lists.{zero-at}
 use Rattle.year_sums.proofs.Updating.{updated-length, updated-at, good-at}
@@ -69,7 +70,7 @@ match_put {l} size m i low old block has full good mark meter bill counts = reco
 }
 
 -- ---- post and replace
-match_brought : (replacing : Bool) {l : Lent} (sheet : List ℕ) → Matches l → BringPasses replacing l sheet → Matches (with_sheet l sheet (taken_off replacing l.book sheet))
+match_brought : (entry : Entry) {l : Lent} (sheet : List ℕ) → Matches l → BringPasses entry l sheet → Matches (with_sheet l sheet (taken_off entry l.book sheet))
 unfolding with_sheet put_sheet
 match_brought w {l} sheet m p =
     let size = (book-sound l.book p.sound).size in
@@ -93,18 +94,18 @@ unfolding lent_after posted replaced withdrawn post_answer replace_answer
 match_after l m (post sheet) = go (post_answer l sheet) refl
   where
     go : (o : Outcome) → post_answer l sheet ≡ o → Matches (afterwards o l (with_sheet l sheet zero_block))
-    go (Refused r) e = m
-    go Accepted e = match_brought false sheet m (bring_passes false l sheet e)
+    go (Err r) e = m
+    go (Ok tt) e = match_brought Post sheet m (bring_passes Post l sheet e)
 match_after l m (replace sheet) = go (replace_answer l sheet) refl
   where
     go : (o : Outcome) → replace_answer l sheet ≡ o → Matches (afterwards o l (with_sheet l sheet (block_in l.book (place_of_month sheet))))
-    go (Refused r) e = m
-    go Accepted e = match_brought true sheet m (bring_passes true l sheet e)
+    go (Err r) e = m
+    go (Ok tt) e = match_brought Replace sheet m (bring_passes Replace l sheet e)
 match_after l m (withdraw month) = go (withdraw_answer l month) refl
   where
     go : (o : Outcome) → withdraw_answer l month ≡ o → Matches (afterwards o l (lent (clear_month l.book month) (updated l.sums (block_in l.book (month - 1)) zero_block)))
-    go (Refused r) e = m
-    go Accepted e = match_withdrawn month m (withdraw-passes l month e)
+    go (Err r) e = m
+    go (Ok tt) e = match_withdrawn month m (withdraw-passes l month e)
 match_after l m (year place) = m
 
 pub match_kept : MatchKept

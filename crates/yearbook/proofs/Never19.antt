@@ -1,5 +1,5 @@
 -- 2026-02: on lists that match and show a plain book no update goes below zero or past 64 bits; the plain book never answers 19. Assumes nothing.
-use Rattle.std.specs.Prelude.{if◌then◌else◌}
+use Rattle.std.specs.Prelude.{if◌then◌else◌, Ok, Err}
 use mathlib.Core.Path.{◌≡◌, sym, ap, subst}
 use mathlib.Core.Logic.{◌≢◌, inl, inr}
 use mathlib.Core.Bool.{Bool, true, false, not, ◌||◌}
@@ -13,10 +13,8 @@ use borrow.Author.Tests.{le-ltb}
 use lib.ListN.{length, get_or}
 use Rattle.sheet.specs.declared.refusal.Refusal.{Refusal}
 use Rattle.sheet.specs.declared.refusal.Refusal.TheVariants.{OtherBuilding, MonthState, NoSuchUnit, BadYearSums}
-use Rattle.sheet.specs.declared.refusal.Outcome.{Outcome}
-use Rattle.sheet.specs.declared.refusal.Outcome.TheVariants.{Accepted, Refused}
+use Rattle.sheet.specs.Refusals.{Outcome, first_refusal, number_of}
 use Rattle.sheet.specs.Tests.{Each}
-use Rattle.sheet.specs.Refusals.{first_refusal, number_of}
 use Rattle.sheet.specs.RuleSets.{newest}
 use Rattle.sheet.specs.Check.{◌to◌, ◌within◌, passes, sheet_rules}
 use Rattle.sheet.specs.Inner.Places.{IfRefused, UpTo}
@@ -108,8 +106,8 @@ unfolding brought settled_sheet now_holds
 brought_never p sheet wrong = go (first_refusal (settle_rules sheet)) (settle_never sheet)
   where
     go : (o : Outcome) → IfRefused (λ r. r ≢ BadYearSums) o → (brought p sheet wrong (unless_refused o (month_of newest (sheet_of sheet)))).reply ≢ refused BadYearSums
-    go (Refused r) d = not-refused d
-    go Accepted d =
+    go (Err r) d = not-refused d
+    go (Ok tt) d =
         step_never (not_kept p (month_of newest (sheet_of sheet))) p OtherBuilding _ (λ e. absurd (let z : ◌≡◌ {A = ℕ} 16 19 = ap number_of e in omega arith))
         (step_never (wrong (month_of newest (sheet_of sheet)).month) p MonthState _ (λ e. absurd (let z : ◌≡◌ {A = ℕ} 17 19 = ap number_of e in omega arith))
         (λ e. absurd (let z : ◌≡◌ {A = ℕ} 0 1 = cc in omega arith)))

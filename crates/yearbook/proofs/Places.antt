@@ -7,9 +7,8 @@ use native.Mathlib.Omega.{arith}
 use lib.Dec.{ltb}
 use Rattle.sheet.specs.declared.refusal.Refusal.{Refusal}
 use Rattle.sheet.specs.declared.refusal.Refusal.TheVariants.{BadYearBook, OtherBuilding, MonthState, NoSuchUnit, BadYearSums}
-use Rattle.sheet.specs.declared.refusal.Outcome.{Outcome}
-use Rattle.sheet.specs.declared.refusal.Outcome.TheVariants.{Accepted, Refused}
-use Rattle.sheet.specs.Refusals.{Rule, ◌⇒◌, first_refusal, place_of}
+use Rattle.sheet.specs.Refusals.{Outcome, Rule, ◌⇒◌, first_refusal, place_of}
+use Rattle.std.specs.Prelude.{Ok, Err}
 use Rattle.sheet.specs.Inner.Places.{PlaceBelow}
 use Rattle.sheet.specs.Layout.{sheet_of}
 use Rattle.sheet.specs.Check.{sheet_rules}
@@ -68,7 +67,7 @@ year-place l place =
 
 -- a reply tells the outcome
 pub same_outcome : (o p : Outcome) → reply_of o ≡ reply_of p → o ≡ p
-same_outcome Accepted Accepted e = refl
-same_outcome Accepted (Refused r) e = absurd (let z : ◌≡◌ {A = ℕ} 0 1 = cc in omega arith)
-same_outcome (Refused r) Accepted e = absurd (let z : ◌≡◌ {A = ℕ} 0 1 = cc in omega arith)
-same_outcome (Refused r) (Refused q) e = cc
+same_outcome (Ok u) (Ok v) e = refl
+same_outcome (Ok u) (Err r) e = absurd (let z : ◌≡◌ {A = ℕ} 0 1 = cc in omega arith)
+same_outcome (Err r) (Ok u) e = absurd (let z : ◌≡◌ {A = ℕ} 0 1 = cc in omega arith)
+same_outcome (Err r) (Err q) e = cc

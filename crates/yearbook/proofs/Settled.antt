@@ -5,9 +5,8 @@ use Prim.Native.Nat.{ℕ, ◌*◌}
 use native.Mathlib.Omega.{arith}
 use lib.ListN.{length}
 use Rattle.sheet.specs.declared.refusal.Refusal.{Refusal}
-use Rattle.sheet.specs.declared.refusal.Outcome.{Outcome}
-use Rattle.sheet.specs.declared.refusal.Outcome.TheVariants.{Accepted, Refused}
-use Rattle.sheet.specs.Refusals.{first_refusal}
+use Rattle.sheet.specs.Refusals.{Outcome, first_refusal}
+use Rattle.std.specs.Prelude.{Ok, Err}
 use Rattle.sheet.specs.RuleSets.{newest}
 use Rattle.sheet.specs.Layout.{sheet_of}
 use Rattle.month.specs.Month.{Month, Settled, month_of, statement_of, settle_rules, settled_sheet, unless_refused}
@@ -18,13 +17,13 @@ use Rattle.yearbook.specs.LentBook.{block_length, padded}
 use Rattle.yearbook.proofs.Writes.{padded-length}
 
 module _ (sheet : List ℕ) where
-  pub sheet-refused : (r : Refusal) → settled_sheet newest sheet ≡ Settled.refused r → first_refusal (settle_rules sheet) ≡ Refused r
+  pub sheet-refused : (r : Refusal) → settled_sheet newest sheet ≡ Settled.refused r → first_refusal (settle_rules sheet) ≡ Err r
   unfolding settled_sheet
   sheet-refused r = go (first_refusal (settle_rules sheet)) refl
     where
-      go : (o : Outcome) → first_refusal (settle_rules sheet) ≡ o → unless_refused o (month_of newest (sheet_of sheet)) ≡ Settled.refused r → first_refusal (settle_rules sheet) ≡ Refused r
-      go Accepted e h = absurd (let z : ◌≡◌ {A = ℕ} 0 1 = cc in omega arith)
-      go (Refused q) e h = cc
+      go : (o : Outcome) → first_refusal (settle_rules sheet) ≡ o → unless_refused o (month_of newest (sheet_of sheet)) ≡ Settled.refused r → first_refusal (settle_rules sheet) ≡ Err r
+      go (Ok tt) e h = absurd (let z : ◌≡◌ {A = ℕ} 0 1 = cc in omega arith)
+      go (Err q) e h = cc
 
   module _ {m : Month} (settles : settled_sheet newest sheet ≡ Settled.settled m) where
     -- to the month of its own fields

@@ -8,7 +8,7 @@ use native.Mathlib.Omega.{arith}
 use native.Mathlib.Decide.{ℕ_discrete, dec_lt}
 use lib.ListN.{length, get_or, take, drop, set, replicate, length-set, length-take, length-drop, length-replicate, get_or-replicate}
 use lib.Seq.{get_or-set_same, get_or-set_other, get_or-take, get_or-drop, ext_get_or}
-use Rattle.sheet.specs.declared.refusal.Outcome.TheVariants.{Accepted}
+use Rattle.std.specs.Prelude.{Ok}
 use Rattle.sheet.specs.RuleSets.{newest}
 use Rattle.sheet.specs.Layout.{sheet_of}
 use Rattle.sheet.specs.Check.{checked}
@@ -157,7 +157,7 @@ unfolding put_sheet put block_of
 shows-sheet h sheet first last g = shows-put h (sheet_of sheet).month first last (some sheet) g
 
 -- ---- a fresh book
-pub shows-fresh : (sheet : List ℕ) → checked 32 sheet ≡ Accepted → Shows (sheet_of sheet).unit_count (fresh_book sheet) (opened_plain sheet)
+pub shows-fresh : (sheet : List ℕ) → checked 32 sheet ≡ Ok tt → Shows (sheet_of sheet).unit_count (fresh_book sheet) (opened_plain sheet)
 unfolding opened_plain
 shows-fresh sheet e =
     let few : (sheet_of sheet).unit_count ≤ 160 = (fits 32 sheet e).header.unit_count in

@@ -1,16 +1,37 @@
--- Refusal 15 and its plain facts. Assumes nothing.
-use mathlib.Core.Path.{◌≡◌, sym, ◌∙◌}
-use mathlib.Core.Bool.{true, false, not, ◌||◌}
-use mathlib.Core.List.{List, map}
-use Prim.Native.Nat.{ℕ, ◌≤◌, ◌<◌}
+-- Refusal 15 and its plain facts, and k. Assumes nothing.
+use mathlib.Core.Path.{◌≡◌, refl, sym, ap, ◌∙◌}
+use mathlib.Core.Bool.{Bool, true, false, not, ◌||◌}
+use mathlib.Core.List.{List, [], ◌∷◌, map}
+use Prim.Native.Nat.{ℕ, ◌+◌, ◌≤◌, ◌<◌}
 use native.Mathlib.Omega.{arith}
 use lib.Dec.{ltb, eqb}
 use borrow.Author.Tests.{lt-ltb, le-ltb, ltb-false, eq-eqb, ne_eqb, eqb-true, not-false}
-use lib.ListN.{length, get_or, take, drop, length-take, length-map, get_or-map}
+use lib.ListN.{length, get_or, take, drop, length-take, length-drop, length-map, get_or-map}
 use lib.Seq.{get_or-take, get_or-drop}
-use Rattle.yearbook.specs.LentBook.{book_length, unit_count_in, mark_at, bad_book}
+use Rattle.std.specs.Prelude.{if◌then◌else◌}
+use Rattle.std.specs.List.{list_any, filter}
+use Rattle.sheet.specs.Tests.{any}
+use Rattle.month.specs.Laws.{sum_to}
+use Rattle.month.proofs.Lists.{sum_to-front, sum_to_cong}
+use Rattle.yearbook.specs.LentBook.{book_length, unit_count_in, mark_at, if_marked, marks_in, bad_book}
 use Rattle.yearbook.specs.Inner.Sound.{Sound}
-use Rattle.year_sums.proofs.Lists.{neither, some-test, no_test, not-any}
+use Rattle.year_sums.proofs.Lists.{neither, no_test, not-any}
+
+any_is : (p : ℕ → Bool) (xs : List ℕ) → list_any p xs ≡ any (map p xs)
+unfolding any
+any_is p [] = refl
+any_is p (x ∷ xs) = ap (λ t. p x || t) (any_is p xs)
+
+-- k, counted mark by mark
+count_is : (xs : List ℕ) → length (filter (λ x. eqb x 1) xs) ≡ sum_to (length xs) (λ i. if_marked (get_or xs i 0) 1)
+unfolding sum_to
+count_is [] = refl
+count_is (x ∷ xs) = rw (sum_to-front (length xs) (λ i. if_marked (get_or (x ∷ xs) i 0) 1)) (one-more (eqb x 1) xs (count_is xs))
+  where
+    one-more : (t : Bool) (xs : List ℕ) → length (filter (λ x. eqb x 1) xs) ≡ sum_to (length xs) (λ i. if_marked (get_or xs i 0) 1)
+        → length (if t then x ∷ filter (λ x. eqb x 1) xs else filter (λ x. eqb x 1) xs) ≡ (if t then 1 else 0) + sum_to (length xs) (λ i. if_marked (get_or xs i 0) 1)
+    one-more true xs e = omega arith
+    one-more false xs e = omega arith
 
 module _ (b : List ℕ) where
   -- the marks one by one
@@ -21,6 +42,12 @@ module _ (b : List ℕ) where
   unfolding marks
   mark_at_lem i h = get_or-take 12 (drop 1 b) i 0 h ∙ get_or-drop 1 b i 0
 
+  pub marks_counted : length b ≡ book_length → length (filter (λ x. eqb x 1) (take 12 (drop 1 b))) ≡ marks_in b
+  unfolding marks_in marks
+  marks_counted size =
+      let twelve : length (take 12 (drop 1 b)) ≡ 12 = simp (length-take, length-drop) (omega arith) in
+      count_is (take 12 (drop 1 b)) ∙ rw twelve (sum_to_cong 12 _ _ (λ i h. ap (λ (x : ℕ). if_marked x 1) (mark_at_lem i h)))
+
   -- ---- 15, test by test
   pub bad-length : (length b ≡ book_length → ⊥) → bad_book b ≡ true
   unfolding bad_book
@@ -30,9 +57,10 @@ module _ (b : List ℕ) where
   unfolding bad_book
   bad-units e h = rw (eq-eqb (length b) book_length e, lt-ltb 160 (unit_count_in b) h)
 
-  pub bad-mark : length b ≡ book_length → unit_count_in b ≤ 160 → (i : ℕ) → i < 12 → 1 < get_or b (mark_at i) 0 → bad_book b ≡ true
-  unfolding bad_book marks
-  bad-mark e h i l m = rw (eq-eqb (length b) book_length e, le-ltb 160 (unit_count_in b) h) (some-test (map (ltb 1) marks) i (get_or-map (ltb 1) marks i 0 ∙ lt-ltb 1 (get_or marks i 0) (omega (arith, mark_at_lem i l))))
+  -- the first two tests don't hold
+  pub by-marks : length b ≡ book_length → unit_count_in b ≤ 160 → bad_book b ≡ list_any (ltb 1) (take 12 (drop 1 b))
+  unfolding bad_book
+  by-marks e h = rw (eq-eqb (length b) book_length e, le-ltb 160 (unit_count_in b) h) (sym (any_is (ltb 1) (take 12 (drop 1 b))))
 
   -- ---- not 15
   pub sound-book : Sound b → bad_book b ≡ false

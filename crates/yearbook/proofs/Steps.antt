@@ -33,6 +33,8 @@ use Rattle.yearbook.proofs.Settled.{sheet-refused, own-month, sheet-accepted, bl
 use Rattle.yearbook.proofs.Blocks.{stored_counted, taken_counted}
 use Rattle.yearbook.proofs.Never19.{number-below, good-sums}
 use Rattle.yearbook.proofs.Building.{eqb-sym, same-sym}
+use Rattle.yearbook.specs.declared.bring.Entry.{Entry}
+use Rattle.yearbook.specs.declared.bring.Entry.TheVariants.{Post, Replace}
 use Rattle.yearbook.specs.Inner.Bring.{bring_call, wrong_month, taken_off}
 use Rattle.yearbook.proofs.Answers.{bring_refused, bring_16, bring_17, bring_accepted, withdraw-low, withdraw-high, withdraw_17, withdraw-accepted, tells_18, tells_totals}
 use Rattle.yearbook.proofs.Shows.{At, Shows, if_marked_lem, shows-sound, shows-ids, shows-cleared, shows-sheet}
@@ -73,9 +75,9 @@ module _ {n : ℕ} {l : Lent} {p : PlainBook} (h : Shows n l.book p) (m : Matche
       rw (shows-ids h, h.count, ← h.plain-count, eqb-sym p.unit_count s.unit_count, same-sym p.ids ids)
 
   -- ---- post and replace
-  bring_so : (replacing : Bool) (sheet : List ℕ) → settled_sheet newest sheet ≡ Settled.settled (month_of newest (sheet_of sheet))
-      → (other wrong : Bool) → other_building b (sheet_of sheet) ≡ other → wrong_month replacing b sheet ≡ wrong
-      → Follows n l (bring_call replacing sheet) (if other then refuse p OtherBuilding else if wrong then refuse p MonthState else now_holds p (sheet_of sheet).month (some sheet))
+  bring_so : (entry : Entry) (sheet : List ℕ) → settled_sheet newest sheet ≡ Settled.settled (month_of newest (sheet_of sheet))
+      → (other wrong : Bool) → other_building b (sheet_of sheet) ≡ other → wrong_month entry b sheet ≡ wrong
+      → Follows n l (bring_call entry sheet) (if other then refuse p OtherBuilding else if wrong then refuse p MonthState else now_holds p (sheet_of sheet).month (some sheet))
   unfolding now_holds other_building with_sheet
   bring_so w sheet e true u f g = follows (bring_16 w l sheet sound _ e f) h
   bring_so w sheet e false true f g = follows (bring_17 w l sheet sound _ e f g) h
@@ -92,9 +94,9 @@ module _ {n : ℕ} {l : Lent} {p : PlainBook} (h : Shows n l.book p) (m : Matche
       let fit = (sheet-accepted sheet e).checked-sheet.header in
       stands_so (sheet_of sheet).month fit.month_low fit.month
 
-  sheet_so : (replacing : Bool) (sheet : List ℕ) (wrong : ℕ → Bool)
-      → (settled_sheet newest sheet ≡ Settled.settled (month_of newest (sheet_of sheet)) → wrong_month replacing b sheet ≡ wrong (sheet_of sheet).month)
-      → Follows n l (bring_call replacing sheet) (brought p sheet wrong (settled_sheet newest sheet))
+  sheet_so : (entry : Entry) (sheet : List ℕ) (wrong : ℕ → Bool)
+      → (settled_sheet newest sheet ≡ Settled.settled (month_of newest (sheet_of sheet)) → wrong_month entry b sheet ≡ wrong (sheet_of sheet).month)
+      → Follows n l (bring_call entry sheet) (brought p sheet wrong (settled_sheet newest sheet))
   unfolding brought month_of
   sheet_so w sheet wrong k = go (settled_sheet newest sheet) refl
     where
@@ -165,7 +167,7 @@ module _ {n : ℕ} {l : Lent} {p : PlainBook} (h : Shows n l.book p) (m : Matche
   -- ---- any call
   pub call_so : (c : Call) → Follows n l c (called p c)
   unfolding called
-  call_so (post sheet) = sheet_so false sheet (λ month. stands p month) (λ e. in_year sheet e)
-  call_so (replace sheet) = sheet_so true sheet (λ month. not (stands p month)) (λ e. ap not (in_year sheet e))
+  call_so (post sheet) = sheet_so Post sheet (λ month. stands p month) (λ e. in_year sheet e)
+  call_so (replace sheet) = sheet_so Replace sheet (λ month. not (stands p month)) (λ e. ap not (in_year sheet e))
   call_so (withdraw month) = withdraw_so month
   call_so (year place) = year_so place

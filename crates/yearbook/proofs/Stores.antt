@@ -1,12 +1,14 @@
 -- Reading a list after writes. Assumes nothing.
 use mathlib.Core.Path.{◌≡◌, refl, ap, sym, ◌∙◌}
 use mathlib.Core.List.{List, [], ◌∷◌, ◌++◌}
-use Prim.Native.Nat.{ℕ, zero, suc, ◌+◌, ◌≤◌, ◌<◌}
+use Prim.Native.Nat.{ℕ, zero, suc, ◌+◌, ◌-◌, ◌≤◌, ◌<◌}
 use native.Mathlib.Omega.{arith}
 use native.Mathlib.Nat.{add-zero, add-suc, suc-add}
-use native.Mathlib.Numerals.{add-one}
-use lib.ListN.{length, get_or, set, take, replicate, length-set}
-use lib.Seq.{sets, get_or-set_same, get_or-set_other, length-take-le, take-suc}
+use borrow.Rule.Slice.PartMut.{put_mid, Post-is}
+use mathlib.Core.List.{append_assoc}
+use lib.ListN.{length, get_or, set, take, drop, replicate, length-set}
+use lib.Seq.{sets, get_or-set_same, get_or-set_other}
+use Rattle.std.proofs.lemmas.List.Edits.{sets-eq}
 use Rattle.year_sums.proofs.Lists.{zero-at}
 
 -- ---- a run of writes: the places below it, above it, in it
@@ -28,16 +30,9 @@ get_d_sets_in (a ∷ vs) l i (suc j) h f =
     ap (λ (k : ℕ). get_or (sets (set l i a) (suc i) vs) k 0) (add-suc i j ∙ sym (suc-add i j))
     ∙ get_d_sets_in vs (set l i a) (suc i) j (omega arith) (rw length-set (omega arith))
 
--- ---- as code makes them
-sets_snoc : (vs l : List ℕ) (i a : ℕ) → sets l i (vs ++ (a ∷ [])) ≡ set (sets l i vs) (i + length vs) a
-sets_snoc [] l i a = rw add-zero
-sets_snoc (x ∷ vs) l i a = sets_snoc vs (set l i x) (suc i) a ∙ ap (λ (k : ℕ). set (sets (set l i x) (suc i) vs) k a) (omega arith)
-
--- one write more of a run, in a loop
-pub store-next : (vs l : List ℕ) (base i : ℕ) → i < length vs → set (sets l base (take i vs)) (base + i) (get_or vs i 0) ≡ sets l base (take (i + 1) vs)
-store-next vs l base i h =
-    let e : length (take i vs) ≡ i = length-take-le i vs (omega arith) in
-    rw (add-one, take-suc vs i 0, sets_snoc, e)
+-- ---- a part of a list that code writes whole
+pub part-written : (vs l : List ℕ) (a e : ℕ) → a + length vs ≡ e → e ≤ length l → put_mid a (e - a) l vs ≡ sets l a vs
+part-written vs l a e h fits = ap (λ (z : List ℕ). take a l ++ (vs ++ z)) (Post-is a e l (omega arith) ∙ ap (λ (n : ℕ). drop n l) (sym h)) ∙ sym (sets-eq vs l a (omega arith) ∙ append_assoc (take a l) vs (drop (a + length vs) l))
 
 -- ---- numbers with zeros after them
 pub zeros-after : (xs : List ℕ) (n x : ℕ) → get_or (xs ++ replicate n 0) x 0 ≡ get_or xs x 0

@@ -2,10 +2,10 @@
 use mathlib.Core.Path.{◌≡◌, refl, sym, ap, subst, ◌∙◌}
 use mathlib.Core.List.{List, [], ◌∷◌, map}
 use mathlib.Core.Option.{Option, none, some}
-use Prim.Native.Nat.{ℕ, zero, suc, ◌+◌, ◌*◌, ◌<◌}
+use Prim.Native.Nat.{ℕ, zero, suc, ◌+◌, ◌*◌, ◌≤◌, ◌<◌}
 use native.Mathlib.Omega.{arith}
-use lib.ListN.{length, get_or}
-use lib.Seq.{ext_get_or}
+use lib.ListN.{length, get_or, take, drop, length-take, length-drop}
+use lib.Seq.{get_or-take, get_or-drop, ext_get_or}
 use Rattle.apportion.specs.Shares.{sum}
 use Rattle.sheet.specs.Tests.{Each}
 use Rattle.month.specs.Fraction.{Fraction, Near, sumᶠ}
@@ -86,3 +86,9 @@ eight-at f (suc (suc (suc (suc (suc (suc (suc (suc j)))))))) h = absurd (omega a
 
 pub eight_cong : (f g : ℕ → ℕ) → ((j : ℕ) → j < 8 → f j ≡ g j) → map f eight ≡ map g eight
 eight_cong f g h = ext_get_or 0 (map f eight) (map g eight) refl (λ j l. eight-at f j l ∙ h j l ∙ sym (eight-at g j l))
+
+-- eight numbers of a list
+pub eight-part : (xs : List ℕ) (at : ℕ) → at + 8 ≤ length xs → take 8 (drop at xs) ≡ map (λ j. get_or xs (at + j) 0) eight
+eight-part xs at h =
+    ext_get_or 0 (take 8 (drop at xs)) (map (λ j. get_or xs (at + j) 0) eight) (simp (length-take, length-drop) (omega arith))
+    (λ j l. let low : j < 8 = omega (arith, length-take 8 (drop at xs)) in get_or-take 8 (drop at xs) j 0 low ∙ get_or-drop at xs j 0 ∙ sym (eight-at (λ j. get_or xs (at + j) 0) j low))

@@ -6,7 +6,7 @@ use Prim.Native.Nat.{ℕ, ◌+◌, ◌*◌, ◌≤◌, ◌<◌}
 use native.Mathlib.Omega.{arith}
 use native.Mathlib.Decide.{dec_lt}
 use lib.ListN.{length, get_or, set, length-set, length-replicate, length-append, get_or-eq_default}
-use lib.Seq.{get_or-set_same, get_or-set_other, length-sets, ext_get_or}
+use lib.Seq.{get_or-set_same, get_or-set_other, length-sets}
 use Rattle.sheet.specs.Layout.{sheet_of}
 use Rattle.sheet.proofs.Units.{ids-count}
 use Rattle.yearbook.specs.LentBook.{book_length, ids_at, block_length, unit_count_in, mark_at, meter_at, bill_at, block_at, padded, put_month, zero_book, fresh_book}
@@ -61,10 +61,6 @@ zero-length = length-replicate {A = ℕ} book_length 0
 pub zero_book-at : (x : ℕ) → get_or zero_book x 0 ≡ 0
 unfolding zero_book
 zero_book-at x = zero-at book_length x
-
--- a list of 15,557 numbers that are all 0
-pub all-zero : (b : List ℕ) → length b ≡ book_length → ((x : ℕ) → x < book_length → get_or b x 0 ≡ 0) → b ≡ zero_book
-all-zero b size h = ext_get_or 0 b zero_book (size ∙ sym zero-length) (λ x l. h x (omega arith) ∙ sym (zero_book-at x))
 
 module _ (sheet : List ℕ) where
   ids : List ℕ

@@ -1,12 +1,11 @@
 -- What opening and accepted calls leave in any lent lists (specs/Cases/Written.antt). Assumes nothing.
 use mathlib.Core.Path.{◌≡◌, refl, ap, ap₂, sym, subst, ◌∙◌}
-use mathlib.Core.Bool.{true, false}
 use mathlib.Core.List.{List, [], ◌∷◌, map}
 use Prim.Native.Nat.{ℕ, ◌+◌, ◌-◌, ◌<◌}
 use native.Mathlib.Omega.{arith}
 use native.Mathlib.Decide.{dec_lt}
 use lib.ListN.{length, get_or, length-replicate}
-use Rattle.sheet.specs.declared.refusal.Outcome.TheVariants.{Accepted}
+use Rattle.std.specs.Prelude.{Ok}
 use Rattle.sheet.specs.RuleSets.{newest}
 use Rattle.sheet.specs.Layout.{sheet_of}
 use Rattle.sheet.specs.Check.{sheet_rules, checked}
@@ -16,6 +15,7 @@ use Rattle.month.proofs.Laws.{settled-month}
 use Rattle.yearbook.specs.Calls.{Call, post, replace, withdraw, accepted}
 use Rattle.year_sums.specs.YearSums.{sums_length, zero_sums, updated}
 use Rattle.yearbook.specs.LentBook.{Lent, lent, book_length, ids_at, mark_at, meter_at, bill_at, block_at, block_length, place_of_month, block_in, padded, zero_block, put_month, put_sheet, clear_month, fresh_book, with_sheet, post_answer, posted, replace_answer, replaced, withdraw_answer, withdrawn, lent_reply, lent_after}
+use Rattle.yearbook.specs.declared.bring.Entry.TheVariants.{Post, Replace}
 use Rattle.yearbook.specs.Cases.Written.{january, december, january_settled, december_settled, january_numbers, december_numbers, both_settle, places, numbers, takes, Left, Fresh, Written}
 use Rattle.yearbook.proofs.Places.{same_outcome}
 use Rattle.yearbook.proofs.Sound.{book-sound}
@@ -37,7 +37,7 @@ module _ (l : Lent) where
   withdraw_puts : (month : ℕ) → lent_reply l (withdraw month) ≡ accepted → Puts l (lent_after l (withdraw month)) (month - 1) 0 0 0 (block_in l.book (month - 1)) zero_block
   unfolding lent_reply lent_after withdrawn clear_month
   withdraw_puts month e =
-      let a : withdraw_answer l month ≡ Accepted = same_outcome (withdraw_answer l month) Accepted e in
+      let a : withdraw_answer l month ≡ Ok tt = same_outcome (withdraw_answer l month) (Ok tt) e in
       let p = withdraw-passes l month a in
       record { size = (book-sound l.book p.sound).size; count = right-length _ _ _ p.good; is = rw a }
 
@@ -57,16 +57,16 @@ module _ (l : Lent) where
     post_puts : lent_reply l (post sheet) ≡ accepted → Puts l (lent_after l (post sheet)) (m.month - 1) 1 m.meter m.bill zero_block (padded m.unit_count m.numbers)
     unfolding lent_reply lent_after post_answer posted block
     post_puts e =
-        let a : post_answer l sheet ≡ Accepted = same_outcome (post_answer l sheet) Accepted e in
-        let p = bring_passes false l sheet a in
+        let a : post_answer l sheet ≡ Ok tt = same_outcome (post_answer l sheet) (Ok tt) e in
+        let p = bring_passes Post l sheet a in
         record { size = (book-sound l.book p.sound).size; count = right-length _ _ _ p.good; is = rw a (sheet_puts zero_block) }
 
     replace_puts : lent_reply l (replace sheet) ≡ accepted
         → Puts l (lent_after l (replace sheet)) (m.month - 1) 1 m.meter m.bill (block_in l.book (m.month - 1)) (padded m.unit_count m.numbers)
     unfolding lent_reply lent_after replace_answer replaced block
     replace_puts e =
-        let a : replace_answer l sheet ≡ Accepted = same_outcome (replace_answer l sheet) Accepted e in
-        let p = bring_passes true l sheet a in
+        let a : replace_answer l sheet ≡ Ok tt = same_outcome (replace_answer l sheet) (Ok tt) e in
+        let p = bring_passes Replace l sheet a in
         record {
           size = (book-sound l.book p.sound).size;
           count = right-length _ _ _ p.good;
@@ -112,7 +112,7 @@ ids : map (λ u. u.id) (sheet_of january).units ≡ 11 ∷ 12 ∷ []
 unfolding month_of
 ids = ap (λ (m : Month). m.ids) (sym january-is)
 
-passes : checked 32 january ≡ Accepted
+passes : checked 32 january ≡ Ok tt
 unfolding checked settle_rules
 passes = holds-none _ (none_of-both (sheet_rules 32 january) (month_rules (sheet_of january)) (none-holds _ (settled-month newest january january_settled january-settles).0)).0
 

@@ -1,8 +1,7 @@
 -- The calls of a year book after its opening, and their replies (document 01, "Year book").
-use Rattle.std.specs.Prelude.{List, [], ◌∷◌, ℕ}
+use Rattle.std.specs.Prelude.{List, [], ◌∷◌, ℕ, Ok, Err}
 use Rattle.sheet.specs.declared.refusal.Refusal.{Refusal}
-use Rattle.sheet.specs.declared.refusal.Outcome.{Outcome}
-use Rattle.sheet.specs.declared.refusal.Outcome.TheVariants.{Accepted, Refused}
+use Rattle.sheet.specs.Refusals.{Outcome}
 
 pub data Call : Type 0 where
   post : (sheet : List ℕ) → Call  -- a sheet's bytes as they are at the call
@@ -22,5 +21,5 @@ eight = 0 ∷ 1 ∷ 2 ∷ 3 ∷ 4 ∷ 5 ∷ 6 ∷ 7 ∷ []
 
 -- the reply of a call that gives no sums
 abbrev pub reply_of : Outcome → Reply
-reply_of Accepted = accepted
-reply_of (Refused r) = refused r
+reply_of (Ok tt) = accepted
+reply_of (Err r) = refused r

@@ -1,4 +1,3 @@
 -- What inner functions promise each other. Nothing in here need be believed.
 pub mod Sound
-pub mod Rows
 pub mod Bring

@@ -1,13 +1,11 @@
 -- The year book in a lent list of 15,557 numbers, with the year sums beside it (document 01, "Year book", refusals 15 to 18; 2026-02, 19):
 -- for each call the answer and both lists afterwards. Any lists, of any length and contents, have them.
-use Rattle.std.specs.Prelude.{◌≡◌, Bool, not, ◌||◌, List, [], ◌∷◌, ◌++◌, map, ℕ, ◌+◌, ◌*◌, ◌-◌, ltb, eqb, length, get_or, take, drop, set, replicate, if◌then◌else◌}
+use Rattle.std.specs.Prelude.{◌≡◌, Bool, not, ◌||◌, List, [], ◌∷◌, ◌++◌, map, ℕ, ◌+◌, ◌*◌, ◌-◌, ltb, eqb, length, get_or, take, drop, set, replicate, if◌then◌else◌, Result, Ok, Err}
 use Rattle.std.proofs.lemmas.List.Edits.{sets}
 use Rattle.sheet.specs.declared.refusal.Refusal.{Refusal}
 use Rattle.sheet.specs.declared.refusal.Refusal.TheVariants.{BadYearBook, OtherBuilding, MonthState, NoSuchUnit, BadYearSums}
-use Rattle.sheet.specs.declared.refusal.Outcome.{Outcome}
-use Rattle.sheet.specs.declared.refusal.Outcome.TheVariants.{Accepted, Refused}
+use Rattle.sheet.specs.Refusals.{Outcome, Rule, ◌⇒◌, first_refusal, afterwards}
 use Rattle.sheet.specs.Tests.{any}
-use Rattle.sheet.specs.Refusals.{Rule, ◌⇒◌, first_refusal, afterwards}
 use Rattle.sheet.specs.RuleSets.{newest}
 use Rattle.sheet.specs.Layout.{Sheet, sheet_of}
 use Rattle.sheet.specs.Check.{same_list, sheet_rules}
@@ -179,8 +177,8 @@ unfoldable pub sums_at : (sums : List ℕ) (place : ℕ) → List ℕ
 sums_at sums place = map (λ j. get_or sums (8 * place + j) 0) eight
 
 abbrev pub year_reply : Outcome → (k : ℕ) → (sums : List ℕ) → Reply
-year_reply Accepted k sums = totals k sums
-year_reply (Refused r) k sums = refused r
+year_reply (Ok tt) k sums = totals k sums
+year_reply (Err r) k sums = refused r
 
 -- the sums are read, not added
 unfoldable pub year_answer : Lent → ℕ → Reply
@@ -208,17 +206,15 @@ pub record Answered (l : Lent) (c : Call) (r : Reply) (l' : Lent) : Type 0 where
   pub reply : r ≡ lent_reply l c
   pub after : l' ≡ lent_after l c
 
--- the year call's reply by value, k and all sums 0 where it is refused
-abbrev pub to_reply : YearTotals → Reply
-to_reply t = year_reply t.outcome t.k t.sums
+-- the year call's reply by value
+abbrev pub to_reply : Result YearTotals Refusal → Reply
+to_reply (Ok t) = totals t.k t.sums
+to_reply (Err r) = refused r
 
-abbrev pub refused_totals : Refusal → YearTotals
-refused_totals r = record { outcome = Refused r; k = 0; sums = replicate 8 0 }
+abbrev pub totals_by : Outcome → (k : ℕ) → (sums : List ℕ) → Result YearTotals Refusal
+totals_by (Ok tt) k sums = Ok (record { k = k; sums = sums })
+totals_by (Err r) k sums = Err r
 
-abbrev pub totals_by : Outcome → (k : ℕ) → (sums : List ℕ) → YearTotals
-totals_by Accepted k sums = record { outcome = Accepted; k = k; sums = sums }
-totals_by (Refused r) k sums = refused_totals r
-
-pub record Tells (l : Lent) (place : ℕ) (t : YearTotals) : Type 0 where
+pub record Tells (l : Lent) (place : ℕ) (t : Result YearTotals Refusal) : Type 0 where
   pub answered : Answered l (year place) (to_reply t) l
   pub whole : t ≡ totals_by (year_outcome l place) (marks_in l.book) (sums_at l.sums place)

@@ -1,6 +1,5 @@
 -- 2026-02: "If it matches the months before a call, it matches after, for every list of calls from an open." proofs/Matches.antt proves it.
-use Rattle.std.specs.Prelude.{◌≡◌, List, ℕ, ◌+◌, ◌<◌, length, get_or}
-use Rattle.sheet.specs.declared.refusal.Outcome.TheVariants.{Accepted}
+use Rattle.std.specs.Prelude.{◌≡◌, List, ℕ, ◌+◌, ◌<◌, length, get_or, Ok}
 use Rattle.month.specs.Laws.{sum_to}
 use Rattle.year_sums.specs.YearSums.{sums_length}
 use Rattle.yearbook.specs.Calls.{Call, Reply}
@@ -17,7 +16,7 @@ pub record Matches (l : Lent) : Type 0 where
 
 -- an accepted opening leaves lists that match
 abbrev pub OpenedMatch : Type 0
-OpenedMatch = (before after : Lent) (sheet : List ℕ) → Opens before sheet Accepted after → Matches after
+OpenedMatch = (before after : Lent) (sheet : List ℕ) → Opens before sheet (Ok tt) after → Matches after
 
 -- any call, whatever its answer, on any book, whatever it holds
 abbrev pub MatchKept : Type 0

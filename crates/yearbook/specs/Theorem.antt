@@ -1,10 +1,9 @@
 -- Demand 3: what is promised of every list of calls. proofs/EveryList.antt proves it (`every_list_of_calls`) and assumes nothing.
 -- The customer's words stand in quotation marks.
-use Rattle.std.specs.Prelude.{◌≡◌, ◌≢◌, List, [], ◌∷◌, map, ℕ, ◌+◌, ◌*◌, ◌<◌, length, get_or}
+use Rattle.std.specs.Prelude.{◌≡◌, ◌≢◌, List, [], ◌∷◌, map, ℕ, ◌+◌, ◌*◌, ◌<◌, length, get_or, Ok}
 use Rattle.apportion.specs.Shares.{sum}
 use Rattle.sheet.specs.declared.refusal.Refusal.TheVariants.{BadYearSums}
-use Rattle.sheet.specs.declared.refusal.Outcome.{Outcome}
-use Rattle.sheet.specs.declared.refusal.Outcome.TheVariants.{Accepted}
+use Rattle.sheet.specs.Refusals.{Outcome}
 use Rattle.sheet.specs.RuleSets.{newest}
 use Rattle.sheet.specs.Layout.{sheet_of}
 use Rattle.sheet.specs.Tests.{Each}
@@ -46,7 +45,7 @@ pub record Kept (n : ℕ) (p : PlainBook) (l : Lent) : Type 0 where
 
 -- a book opened with a sheet, open's answer o, then calls with their replies, and the lists l that they leave
 pub record YearBook (opening : List ℕ) (o : Outcome) (calls : List Call) (replies : List Reply) (l : Lent) : Type 0 where
-  pub opens : o ≡ Accepted
+  pub opens : o ≡ Ok tt
   -- "each call is accepted, or refused with number and place, exactly as in document 01's plain year book"
   pub same-replies : replies ≡ plain_replies (opened_plain opening) calls
   -- 2026-02: 19 never arises.
@@ -60,7 +59,7 @@ EveryListOfCalls =
     (before start l : Lent) (opening : List ℕ) (o : Outcome) (calls : List Call) (replies : List Reply)
     → length before.book ≡ book_length
     → length before.sums ≡ sums_length
-    → checked 32 opening ≡ Accepted
+    → checked 32 opening ≡ Ok tt
     → Opens before opening o start
     → CallsMade start calls replies l
     → YearBook opening o calls replies l

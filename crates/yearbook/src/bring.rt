@@ -1,116 +1,85 @@
 // Post and replace: a settled sheet into its month, and its block into the sums.
-ghost use Rattle.std.specs.Prelude.{◌≡◌, map, length, take, drop};
-ghost use Rattle.sheet.specs.Layout.{sheet_of};
-ghost use Rattle.sheet.specs.Check.{same_list};
+ghost use Rattle.std.specs.Prelude.{◌≡◌, option_copied, MatchResult, Err};
+ghost use Rattle.sheet.specs.Refusals.{first_refusal};
+ghost use Rattle.month.specs.Month.{settle_rules};
+ghost use Rattle.year_sums.specs.Inner.Update.{old_or_zeros};
 ghost use Rattle.yearbook.specs.Calls.{reply_of};
-ghost use Rattle.yearbook.specs.LentBook.{lent, book_length, ids_at, other_building, Answered};
-ghost use Rattle.yearbook.specs.Inner.Rows.{HoldsRows};
-ghost use Rattle.yearbook.specs.Inner.Bring.{bring_call, wrong_mark, Passed, Brings};
+ghost use Rattle.yearbook.specs.LentBook.{lent, zero_block, Answered};
+ghost use Rattle.yearbook.specs.Inner.Bring.{bring_call, wrong_state, old_block, Settles};
 
+use crate::book::Book;
 use crate::{layout, months};
-use sheet::{Outcome, Refusal, header, rows};
+use sheet::{Refusal, Sheet, header};
 
-// Whether the sheet's n ids are the book's.
-fn same_ids(book: &[u32], sheet: &[u8], n: usize) -> bool
-    requires { (length book.now ≡ book_length) × HoldsRows sheet.now n }
-    ensures { result ≡ same_list (take n (drop ids_at book.now)) (map (λ u. u.id) (sheet_of sheet.now).units) }
-{
-    for i in 0..n {
-        if book[layout::IDS + i] != rows::unit_field(sheet, i, rows::ID) {
-            return false;
+// How a sheet enters the book.
+#[derive(Clone, Copy)]
+enum Entry {
+    Post,
+    Replace,
+}
+
+impl Entry {
+    // 17: the month stands (post) or doesn't (replace).
+    fn wrong_state(self, stands: bool) -> bool
+        ensures { result ≡ wrong_state self stands }
+    {
+        match self {
+            Entry::Post => stands,
+            Entry::Replace => !stands,
         }
     }
-    true
+
+    // What it takes off the sums, of the month's block.
+    fn old_block(self, block: &[u32]) -> Option<&[u32]>
+        ensures { old_or_zeros (option_copied result) ≡ old_block self block.now }
+    {
+        match self {
+            Entry::Post => None,
+            Entry::Replace => Some(block),
+        }
+    }
 }
 
-// 16
-fn other_building(book: &[u32], sheet: &[u8], n: u32) -> bool
-    requires { (length book.now ≡ book_length) × HoldsRows sheet.now n }
-    ensures { result ≡ other_building book.now (sheet_of sheet.now) }
+// 8 to 12, and the sheet's block.
+fn settle_block(sheet: Sheet<'_>, block: &mut [u32; layout::BLOCK_LENGTH]) -> Result<(), Refusal>
+    requires { block.old ≡ zero_block }
+    ensures { MatchResult result (λ done. Settles sheet.entry.bytes.now block.new) (λ r. first_refusal (settle_rules sheet.entry.bytes.now) ≡ Err r) }
 {
-    if book[layout::UNIT_COUNT] != n {
-        return true;
-    }
-    if same_ids(book, sheet, n as usize) {
-        return false;
-    }
-    true
+    let end = 8 * sheet.unit_count();
+    settlement::settle_checked(sheet::NEWEST, sheet, &mut block[..end])
 }
 
-// 17: the month stands (post) or doesn't (replace).
-fn wrong_mark(replacing: bool, mark: u32) -> bool
-    ensures { result ≡ wrong_mark replacing mark }
+// 15, 1 to 12, then 16, 17 and 19. The new block is on the stack, so that no refusal writes to the book.
+fn bring(book: &mut [u32], sums: &mut [u64], sheet: &[u8], entry: Entry) -> Result<(), Refusal>
+    ensures { Answered (lent book.old sums.old) (bring_call entry sheet.now) (reply_of result) (lent book.new sums.new) }
 {
-    if replacing {
-        return mark != 1;
+    let before = Book::check(book)?;
+    let sheet = Sheet::check(sheet)?;
+    let mut block = [0; layout::BLOCK_LENGTH];
+    settle_block(sheet, &mut block)?;
+    if before.other_building(sheet) {
+        return Err(Refusal::OtherBuilding);
     }
-    mark == 1
-}
-
-// A sheet that settles to the block: 16, 17, 19, then the write.
-fn enter(
-    book: &mut [u32],
-    sums: &mut [u64],
-    sheet: &[u8],
-    replacing: bool,
-    block: &[u32],
-) -> Outcome
-    requires { Brings book.old sheet.now block.now }
-    ensures { Answered (lent book.old sums.old) (bring_call replacing sheet.now) (reply_of result) (lent book.new sums.new) }
-{
-    let n = header::header_field(sheet, header::UNIT_COUNT);
-    if other_building(book, sheet, n) {
-        return Outcome::Refused(Refusal::OtherBuilding);
+    let i = sheet.header(header::Field::Month) as usize - 1;
+    if entry.wrong_state(before.stands(i)) {
+        return Err(Refusal::MonthState);
     }
-    let i = header::header_field(sheet, header::MONTH) as usize - 1;
-    if wrong_mark(replacing, book[layout::MARKS + i]) {
-        return Outcome::Refused(Refusal::MonthState);
-    }
-    if !months::update_sums(book, sums, i, replacing, block, n as usize) {
-        return Outcome::Refused(Refusal::BadYearSums);
-    }
-    let meter = header::header_field(sheet, header::SHARED_METER);
+    let old = entry.old_block(before.block(i));
+    year_sums::update(sums, old, &block, sheet.unit_count())?;
+    let meter = sheet.header(header::Field::SharedMeter);
     let bill = settlement::bill_cents(sheet) as u32;
-    months::put_month(book, i, 1, meter, bill, block);
-    Outcome::Accepted
+    months::put_month(book, i, 1, meter, bill, &block);
+    Ok(())
 }
 
-// 8 to 12, then 16, 17 and 19. The block is on the stack, so that no refusal writes to the book.
-fn settle_into(book: &mut [u32], sums: &mut [u64], sheet: &[u8], replacing: bool) -> Outcome
-    requires { Passed book.old sheet.now }
-    ensures { Answered (lent book.old sums.old) (bring_call replacing sheet.now) (reply_of result) (lent book.new sums.new) }
-{
-    let n = header::header_field(sheet, header::UNIT_COUNT) as usize;
-    let mut block = [0u32; layout::BLOCK_LENGTH];
-    let outcome = settlement::settle_checked(sheet::NEWEST, sheet, &mut block[..8 * n]);
-    let Outcome::Accepted = outcome else {
-        return outcome;
-    };
-    enter(book, sums, sheet, replacing, &block)
-}
-
-// 15, 1 to 12, then 16, 17 and 19.
-fn bring(book: &mut [u32], sums: &mut [u64], sheet: &[u8], replacing: bool) -> Outcome
-    ensures { Answered (lent book.old sums.old) (bring_call replacing sheet.now) (reply_of result) (lent book.new sums.new) }
-{
-    if layout::bad_book(book) {
-        return Outcome::Refused(Refusal::BadYearBook);
-    }
-    let outcome = sheet::check_sheet(sheet);
-    let Outcome::Accepted = outcome else {
-        return outcome;
-    };
-    settle_into(book, sums, sheet, replacing)
-}
-
-pub fn post(book: &mut [u32], sums: &mut [u64], sheet: &[u8]) -> Outcome
+pub fn post(book: &mut [u32], sums: &mut [u64], sheet: &[u8]) -> Result<(), Refusal>
     ensures { Answered (lent book.old sums.old) (Rattle.yearbook.specs.Calls.post sheet.now) (reply_of result) (lent book.new sums.new) }
 {
-    bring(book, sums, sheet, false)
+    bring(book, sums, sheet, Entry::Post)
 }
 
-pub fn replace(book: &mut [u32], sums: &mut [u64], sheet: &[u8]) -> Outcome
+pub fn replace(book: &mut [u32], sums: &mut [u64], sheet: &[u8]) -> Result<(), Refusal>
     ensures { Answered (lent book.old sums.old) (Rattle.yearbook.specs.Calls.replace sheet.now) (reply_of result) (lent book.new sums.new) }
 {
-    bring(book, sums, sheet, true)
+    bring(book, sums, sheet, Entry::Replace)
 }

@@ -4,9 +4,7 @@ ghost use Rattle.yearbook.specs.LentBook.{bad_book};
 
 pub(crate) const BOOK_LENGTH: usize = 15557;
 
-pub(crate) const MONTHS: usize = 12;
-
-pub(crate) const MOST_UNITS: u32 = 160;
+const MOST_UNITS: u32 = 160;
 
 // n.
 pub(crate) const UNIT_COUNT: usize = 0;
@@ -31,13 +29,5 @@ pub fn bad_book(book: &[u32]) -> bool
     if book.len() != BOOK_LENGTH {
         return true;
     }
-    if book[UNIT_COUNT] > MOST_UNITS {
-        return true;
-    }
-    for i in 0..MONTHS {
-        if book[MARKS + i] > 1 {
-            return true;
-        }
-    }
-    false
+    book[UNIT_COUNT] > MOST_UNITS || book[MARKS..METERS].iter().any(|&mark| mark > 1)
 }

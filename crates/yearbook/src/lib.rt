@@ -1,6 +1,7 @@
 // The year book (document 01, "Year book"), with the year sums beside it (2026-02).
 #![tactic(auto)]
 
+mod book;
 mod bring;
 mod layout;
 mod months;

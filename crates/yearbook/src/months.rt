@@ -1,8 +1,6 @@
-// The write of a month, and what it does to the sums.
+// The write of a month.
 ghost use Rattle.std.specs.Prelude.{◌≡◌, ◌<◌, length};
-ghost use Rattle.year_sums.specs.Inner.Update.{if_taken, Updates};
-ghost use Rattle.yearbook.specs.LentBook.{book_length, block_length, block_in, put_month};
-ghost use Rattle.yearbook.specs.Inner.Bring.{NewBlock};
+ghost use Rattle.yearbook.specs.LentBook.{book_length, block_length, put_month};
 
 use crate::layout;
 
@@ -14,25 +12,6 @@ pub(crate) fn put_month(book: &mut [u32], i: usize, mark: u32, meter: u32, bill:
     book[layout::MARKS + i] = mark;
     book[layout::METERS + i] = meter;
     book[layout::BILLS + i] = bill;
-    let base = layout::BLOCKS + layout::BLOCK_LENGTH * i;
-    for k in 0..layout::BLOCK_LENGTH {
-        book[base + k] = block[k];
-    }
-}
-
-// Takes the block of the month at place i off the sums, or nothing, and adds a block of n units. Where 19 refuses that it writes nothing and gives false.
-pub(crate) fn update_sums(
-    book: &[u32],
-    sums: &mut [u64],
-    i: usize,
-    taken: bool,
-    block: &[u32],
-    n: usize,
-) -> bool
-    requires { NewBlock book.now i n block.now }
-    ensures { Updates sums.old (if_taken taken (block_in book.now i)) block.now result sums.new }
-{
-    let base = layout::BLOCKS + layout::BLOCK_LENGTH * i;
-    let end = base + layout::BLOCK_LENGTH;
-    year_sums::update(sums, taken, &book[base..end], block, n)
+    let start = layout::BLOCKS + layout::BLOCK_LENGTH * i;
+    book[start..start + layout::BLOCK_LENGTH].copy_from_slice(block);
 }

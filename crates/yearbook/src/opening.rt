@@ -1,50 +1,42 @@
 // Opening: n and ids of a sheet, all else 0, and sums of 0.
-ghost use Rattle.std.specs.Prelude.{◌≡◌, length};
-ghost use Rattle.yearbook.specs.LentBook.{lent, book_length, zero_book, fresh_book, Opens};
-ghost use Rattle.yearbook.specs.Inner.Rows.{HoldsRows};
+ghost use Rattle.std.specs.Prelude.{◌≡◌, map, length};
+ghost use Rattle.sheet.specs.Layout.{sheet_of};
+ghost use Rattle.yearbook.specs.LentBook.{lent, book_length, fresh_book, Opens};
 
 use crate::layout;
-use sheet::{Outcome, Refusal, header, rows};
+use sheet::{Refusal, Sheet, rows};
 
-fn clear(book: &mut [u32])
-    requires { length book.old ≡ book_length }
-    ensures { book.new ≡ zero_book }
+fn write_ids(ids: &mut [u32], sheet: Sheet<'_>)
+    requires { length ids.old ≡ (sheet_of sheet.bytes.now).unit_count }
+    ensures { ids.new ≡ map (λ u. u.id) (sheet_of sheet.entry.bytes.now).units }
 {
-    for i in 0..layout::BOOK_LENGTH {
-        book[i] = 0;
+    for (i, id) in ids.iter_mut().enumerate() {
+        *id = sheet.row(i).field(rows::Field::Id);
     }
 }
 
-fn start(book: &mut [u32], sheet: &[u8], n: usize)
-    requires { (length book.old ≡ book_length) × HoldsRows sheet.now n }
-    ensures { book.new ≡ fresh_book sheet.now }
+fn start(book: &mut [u32], sheet: Sheet<'_>)
+    requires { length book.old ≡ book_length }
+    ensures { book.new ≡ fresh_book sheet.entry.bytes.now }
 {
-    clear(book);
+    book.fill(0);
+    let n = sheet.unit_count();
     book[layout::UNIT_COUNT] = n as u32;
-    for i in 0..n {
-        book[layout::IDS + i] = rows::unit_field(sheet, i, rows::ID);
-    }
+    write_ids(&mut book[layout::IDS..layout::IDS + n], sheet);
 }
 
 // 15 by the length alone, then 1 to 7, then 19 by the length alone.
-pub fn open(book: &mut [u32], sums: &mut [u64], sheet: &[u8]) -> Outcome
+pub fn open(book: &mut [u32], sums: &mut [u64], sheet: &[u8]) -> Result<(), Refusal>
     ensures { Opens (lent book.old sums.old) sheet.now result (lent book.new sums.new) }
 {
     if book.len() != layout::BOOK_LENGTH {
-        return Outcome::Refused(Refusal::BadYearBook);
+        return Err(Refusal::BadYearBook);
     }
-    let outcome = sheet::check_sheet(sheet);
-    let Outcome::Accepted = outcome else {
-        return outcome;
-    };
+    let sheet = Sheet::check(sheet)?;
     if sums.len() != layout::BLOCK_LENGTH {
-        return Outcome::Refused(Refusal::BadYearSums);
+        return Err(Refusal::BadYearSums);
     }
-    start(
-        book,
-        sheet,
-        header::header_field(sheet, header::UNIT_COUNT) as usize,
-    );
+    start(book, sheet);
     year_sums::clear(sums);
-    Outcome::Accepted
+    Ok(())
 }

@@ -2,31 +2,25 @@
 ghost use Rattle.yearbook.specs.Calls.{reply_of};
 ghost use Rattle.yearbook.specs.LentBook.{lent, Answered};
 
+use crate::book::Book;
 use crate::{layout, months};
-use sheet::{Outcome, Refusal};
+use sheet::Refusal;
 
 // 15; 17 when the month isn't 1 to 12 or doesn't stand; 19.
-pub fn withdraw(book: &mut [u32], sums: &mut [u64], month: u32) -> Outcome
+pub fn withdraw(book: &mut [u32], sums: &mut [u64], month: u32) -> Result<(), Refusal>
     ensures { Answered (lent book.old sums.old) (Rattle.yearbook.specs.Calls.withdraw month) (reply_of result) (lent book.new sums.new) }
 {
-    if layout::bad_book(book) {
-        return Outcome::Refused(Refusal::BadYearBook);
-    }
-    if month < 1 {
-        return Outcome::Refused(Refusal::MonthState);
-    }
-    if month as usize > layout::MONTHS {
-        return Outcome::Refused(Refusal::MonthState);
+    let before = Book::check(book)?;
+    if !(1..=12).contains(&month) {
+        return Err(Refusal::MonthState);
     }
     let i = month as usize - 1;
-    if book[layout::MARKS + i] != 1 {
-        return Outcome::Refused(Refusal::MonthState);
+    if !before.stands(i) {
+        return Err(Refusal::MonthState);
     }
-    let none = [0u32; layout::BLOCK_LENGTH];
-    let n = book[layout::UNIT_COUNT] as usize;
-    if !months::update_sums(book, sums, i, true, &none, n) {
-        return Outcome::Refused(Refusal::BadYearSums);
-    }
+    let none = [0; layout::BLOCK_LENGTH];
+    let n = before.unit_count() as usize;
+    year_sums::update(sums, Some(before.block(i)), &none, n)?;
     months::put_month(book, i, 0, 0, 0, &none);
-    Outcome::Accepted
+    Ok(())
 }

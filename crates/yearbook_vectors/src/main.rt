@@ -5,9 +5,10 @@
 // any other kind writes a number of the book: its place and the number, in 16 bits each.
 #![tactic(auto)]
 
-ghost use Rattle.std.specs.Prelude.{◌≡◌, ◌≤◌, IfOk, length};
+ghost use Rattle.std.specs.Prelude.{◌≤◌};
+ghost use Rattle.yearbook_vectors.specs.declared.TheConstants.{ALL_SUMS};
 
-use sheet::Outcome;
+use sheet::Refusal;
 use std::io;
 use yearbook::YearTotals;
 
@@ -20,173 +21,159 @@ const MOST_CALLS: usize = 125_000;
 // One more than a call should be lent.
 const ALL_SUMS: usize = 1281;
 
-fn print_year(rt: &impl Print, t: YearTotals) -> io::Result<()> {
-    let outcome = t.outcome;
-    let sums = t.sums;
-    console::answer(rt, outcome)?;
-    console::word(rt, t.k as u64)?;
-    console::word(rt, sums[0])?;
-    console::word(rt, sums[1])?;
-    console::word(rt, sums[2])?;
-    console::word(rt, sums[3])?;
-    console::word(rt, sums[4])?;
-    console::word(rt, sums[5])?;
-    console::word(rt, sums[6])?;
-    console::word(rt, sums[7])
+// What is printed behind a refusal.
+const NO_TOTALS: YearTotals = YearTotals { k: 0, sums: [0; 8] };
+
+// What a call does, by its first byte.
+enum Kind {
+    Open,
+    Post,
+    Replace,
+    Withdraw,
+    Year,
+    SetSum,
+    SetLent,
+    SetNumber,
 }
 
-fn with_sheet(book: &mut [u32], sums: &mut [u64], kind: u32, sheet: &[u8]) -> Outcome {
-    if kind == 0 {
-        return yearbook::open(book, sums, sheet);
-    }
-    if kind == 1 {
-        return yearbook::post(book, sums, sheet);
-    }
-    yearbook::replace(book, sums, sheet)
-}
-
-// Reads a sheet as long as the buffer.
-fn sheet_into(
-    rt: &(impl Input + Print),
-    book: &mut [u32],
-    sums: &mut [u64],
-    kind: u32,
-    buffer: &mut [u8],
-) -> io::Result<()> {
-    let n = console::read_full(rt, buffer)?;
-    console::answer(rt, with_sheet(book, sums, kind, &buffer[..n]))
-}
-
-fn next_sheet(
-    rt: &(impl Input + Print),
-    book: &mut [u32],
-    sums: &mut [u64],
-    kind: u32,
-    length: usize,
-) -> io::Result<()>
-    requires { length ≤ 5400 }
-{
-    let mut buffer = [0u8; LONGEST];
-    sheet_into(rt, book, sums, kind, &mut buffer[..length])
-}
-
-fn sheet_call(
-    rt: &(impl Input + Print),
-    book: &mut [u32],
-    sums: &mut [u64],
-    kind: u32,
-) -> io::Result<()> {
-    let length = console::next16(rt)? as usize;
-    if LONGEST < length {
-        return Ok(());
-    }
-    next_sheet(rt, book, sums, kind, length)
-}
-
-fn write_number(rt: &(impl Input + Print), book: &mut [u32]) -> io::Result<()> {
-    let place = console::next16(rt)? as usize;
-    let x = console::next16(rt)?;
-    if book.len() <= place {
-        return Ok(());
-    }
-    book[place] = x;
-    rt.print("set")
-}
-
-fn call(
-    rt: &(impl Input + Print),
-    book: &mut [u32],
-    sums: &mut [u64],
-    kind: u32,
-) -> io::Result<()> {
-    if kind < 3 {
-        return sheet_call(rt, book, sums, kind);
-    }
-    if kind == 3 {
-        let month = console::next32(rt)?;
-        return console::answer(rt, yearbook::withdraw(book, sums, month));
-    }
-    if kind == 4 {
-        let place = console::next32(rt)?;
-        return print_year(rt, yearbook::year(book, sums, place));
-    }
-    write_number(rt, book)
-}
-
-fn write_sum(rt: &(impl Input + Print), sums: &mut [u64]) -> io::Result<()> {
-    let place = console::next16(rt)? as usize;
-    let x = console::next64(rt)?;
-    if sums.len() <= place {
-        return Ok(());
-    }
-    sums[place] = x;
-    rt.print("sum")
-}
-
-fn next_count(rt: &(impl Input + Print), before: usize) -> io::Result<usize>
-    requires { before ≤ 1281 }
-    ensures { IfOk result (λ count. count ≤ 1281) }
-{
-    let count = console::next16(rt)? as usize;
-    if ALL_SUMS < count {
-        return Ok(before);
-    }
-    rt.print("count")?;
-    Ok(count)
-}
-
-// A call, and how many sums are lent from then on.
-fn step(
-    rt: &(impl Input + Print),
-    book: &mut [u32],
-    sums: &mut [u64],
-    kind: u32,
-    count: usize,
-) -> io::Result<usize>
-    requires { (length sums.old ≡ 1281) × (count ≤ 1281) }
-    ensures { IfOk result (λ lent. lent ≤ 1281) }
-{
-    if kind == 7 {
-        return next_count(rt, count);
-    }
-    if kind == 6 {
-        write_sum(rt, sums)?;
-        return Ok(count);
-    }
-    call(rt, book, &mut sums[..count], kind)?;
-    Ok(count)
-}
-
-// The sums as one number.
-fn digest(sums: &[u64]) -> u64 {
-    let mut sum: u64 = 0;
-    let mut i = 0;
-    while i < sums.len() {
-        sum = (31 * sum + sums[i] % 1_000_000_007) % 1_000_000_007;
-        i += 1;
-    }
-    sum
-}
-
-fn run(rt: &(impl Input + Print), book: &mut [u32], sums: &mut [u64]) -> io::Result<()>
-    requires { length sums.old ≡ 1281 }
-{
-    let mut count: usize = 1280;
-    for _ in 0..MOST_CALLS {
-        let kind = console::next8(rt)?;
-        if 255 < kind {
-            return Ok(());
+impl From<u8> for Kind {
+    fn from(byte: u8) -> Kind {
+        match byte {
+            0 => Kind::Open,
+            1 => Kind::Post,
+            2 => Kind::Replace,
+            3 => Kind::Withdraw,
+            4 => Kind::Year,
+            6 => Kind::SetSum,
+            7 => Kind::SetLent,
+            _ => Kind::SetNumber,
         }
-        count = step(rt, book, sums, kind, count)?;
-        console::word(rt, console::digest(book))?;
-        console::word(rt, digest(sums))?;
-        console::newline(rt)?;
     }
-    Ok(())
+}
+
+// 0 where the input no longer has the number.
+fn next32(rt: &impl Input) -> io::Result<u32> {
+    Ok(u32::from_le_bytes(console::next(rt)?.unwrap_or([0; 4])))
+}
+
+// The book, the sums beside it, and how many of them a call is lent.
+#[derive(Drop)]
+struct Lists {
+    book: [u32; 15_557],
+    sums: [u64; ALL_SUMS],
+    lent: usize,
+    ghost in_range: { lent ≤ ALL_SUMS },
+}
+
+impl Lists {
+    // A call with a sheet. Nothing where its length is missing or too long.
+    fn bring<F: FnOnce(&mut [u32], &mut [u64], &[u8]) -> Result<(), Refusal>>(
+        &mut self,
+        rt: &(impl Input + Print),
+        call: F,
+    ) -> io::Result<()>
+        requires { F.IsAlwaysCallable call }
+    {
+        let Some(length) = console::next_up_to(rt, LONGEST)? else {
+            return Ok(());
+        };
+        let mut buffer = [0u8; LONGEST];
+        let n = console::read_full(rt, &mut buffer[..length])?;
+        let lent = self.lent;
+        let sums = &mut self.sums[..];
+        console::answer(rt, call(&mut self.book, &mut sums[..lent], &buffer[..n]))
+    }
+
+    fn withdraw(&mut self, rt: &(impl Input + Print)) -> io::Result<()> {
+        let month = next32(rt)?;
+        let lent = self.lent;
+        let sums = &mut self.sums[..];
+        console::answer(
+            rt,
+            yearbook::withdraw(&mut self.book, &mut sums[..lent], month),
+        )
+    }
+
+    fn print_year(&self, rt: &(impl Input + Print)) -> io::Result<()> {
+        let place = next32(rt)?;
+        let totals = yearbook::year(&self.book, &self.sums[..self.lent], place);
+        console::answer(rt, totals)?;
+        let totals = totals.unwrap_or(NO_TOTALS);
+        console::word(rt, u64::from(totals.k))?;
+        for sum in totals.sums {
+            console::word(rt, sum)?;
+        }
+        Ok(())
+    }
+
+    // A number that the input no longer has is written as 65,536.
+    fn set_number(&mut self, rt: &(impl Input + Print)) -> io::Result<()> {
+        let place = console::next(rt)?.map(u16::from_le_bytes);
+        let x = console::next(rt)?.map(u16::from_le_bytes);
+        let Some(place) = place else {
+            return Ok(());
+        };
+        let Some(number) = self.book.get_mut(usize::from(place)) else {
+            return Ok(());
+        };
+        *number = x.map_or(65_536, u32::from);
+        rt.print("set")
+    }
+
+    // A half of the number that the input no longer has is written as 0.
+    fn set_sum(&mut self, rt: &(impl Input + Print)) -> io::Result<()> {
+        let place = console::next(rt)?.map(u16::from_le_bytes);
+        let low = u64::from(next32(rt)?);
+        let high = u64::from(next32(rt)?);
+        let Some(place) = place else {
+            return Ok(());
+        };
+        let Some(sum) = self.sums.get_mut(usize::from(place)) else {
+            return Ok(());
+        };
+        *sum = low + 4_294_967_296 * high;
+        rt.print("sum")
+    }
+
+    fn set_lent(&mut self, rt: &(impl Input + Print)) -> io::Result<()> {
+        let Some(lent) = console::next_up_to(rt, ALL_SUMS)? else {
+            return Ok(());
+        };
+        self.lent = lent;
+        rt.print("count")
+    }
+
+    fn call(&mut self, rt: &(impl Input + Print), kind: Kind) -> io::Result<()> {
+        match kind {
+            Kind::Open => self.bring(rt, |book, sums, sheet| yearbook::open(book, sums, sheet)),
+            Kind::Post => self.bring(rt, |book, sums, sheet| yearbook::post(book, sums, sheet)),
+            Kind::Replace => self.bring(
+                rt,
+                |book, sums, sheet| yearbook::replace(book, sums, sheet),
+            ),
+            Kind::Withdraw => self.withdraw(rt),
+            Kind::Year => self.print_year(rt),
+            Kind::SetSum => self.set_sum(rt),
+            Kind::SetLent => self.set_lent(rt),
+            Kind::SetNumber => self.set_number(rt),
+        }
+    }
 }
 
 fn main(rt: HostRuntime) -> io::Result<()> {
-    let mut book = [0u32; 15557];
-    let mut sums = [0u64; ALL_SUMS];
-    run(&rt, &mut book, &mut sums)
+    let mut lists = Lists {
+        book: [0; 15_557],
+        sums: [0; ALL_SUMS],
+        lent: 1280,
+    };
+    for _ in 0..MOST_CALLS {
+        let Some(kind) = console::next(&rt)?.map(u8::from_le_bytes) else {
+            return Ok(());
+        };
+        lists.call(&rt, Kind::from(kind))?;
+        console::word(&rt, console::digest(&lists.book))?;
+        console::word(&rt, console::digest(&lists.sums))?;
+        console::newline(&rt)?;
+    }
+    Ok(())
 }

@@ -1,61 +1,77 @@
 -- `apportion` meets its contract.
-use mathlib.Core.Path.{◌≡◌, subst, ◌∙◌}
-use mathlib.Core.List.{List}
+use mathlib.Core.Path.{◌≡◌, sym, ap, ap₂, subst, ◌∙◌}
+use mathlib.Core.List.{List, []}
 use Prim.Native.Nat.{ℕ, ◌<◌}
 use native.Mathlib.Decide.{dec_lt}
 use native.Mathlib.Omega.{arith}
 use lib.ListN.{length}
-use Rattle.apportion.specs.Shares.{sum}
+use Rattle.apportion.specs.Shares.{sum, extras, added}
 use Rattle.apportion.specs.Inner.Selection.{RoundedDown}
 use Rattle.apportion.proofs.Plan.{none_shared, none_remaining, down_le, left_le, positive-count, top_largest, top_under, out_le, with_leftover, without_leftover}
 use Rattle.apportion.proofs.Plan as plan
 use Rattle.apportion.proofs.apportion.Goals as goal
+use Rattle.apportion.proofs.apportion.Goals.{After-sum_of-whole, After-round_down-down}
 
 -- with something to divide there is a weight
 weighted : (total : ℕ) (ws : List ℕ) → (sum ws ≡ 0 → total ≡ 0) → 0 < total → 0 < sum ws
 weighted total ws none h = elim (dec_lt 0 (sum ws)) [ yes p ↦ p | no p ↦ absurd (omega (arith, none (omega arith))) ]
 
+weight : (c : After-sum_of-whole) → 0 < sum c.args.ws.now
+weight c = weighted c.args.total c.args.ws.now c.requires.total_bound.2 (omega arith)
+
 -- what is known once the quotas are written
-rounded : (total whole : ℕ) (ws : List ℕ) (s l p : ℕ) (rests out : List ℕ) → whole ≡ sum ws → RoundedDown total whole ws s l p rests out → RoundedDown total (sum ws) ws s l p rests out
-rounded total whole ws s l p rests out e h = subst (λ (w : ℕ). RoundedDown total w ws s l p rests out) e h
+rounded : (c : After-round_down-down) → let d = c.round_down-down in
+    RoundedDown c.args.total (sum c.args.ws.now) c.args.ws.now d.result.sum d.result.largest d.result.positive d.new.rests d.new.out
+rounded c =
+    let d = c.round_down-down in
+    subst (λ (w : ℕ). RoundedDown c.args.total w c.args.ws.now d.result.sum d.result.largest d.result.positive d.new.rests d.new.out)
+    (c.new-divisor.ensures ∙ c.sum_of-whole.ensures) d.ensures
 
 pub returns-then-total-eq0 : goal.returns-then-total-eq0
 returns-then-total-eq0 c =
+    let t = c.args.total in
+    let ws = c.args.ws.now in
     let lengths = c.requires.scratch_len in (
-      c.no_quotas.ensures ∙ none_shared c.args.total c.args.ws.now (length c.args.out.now) (omega arith) lengths.1,
-      c.no_remainders.ensures ∙ none_remaining c.args.total c.args.ws.now (length c.args.scratch.now) (omega arith) lengths.0,
+      c.fill-then-total-eq0.ensures.after (λ y e. e) ∙ none_shared t ws (length c.args.out.now) (omega arith) lengths.1,
+      c.fill.ensures.after (λ y e. e) ∙ none_remaining t ws (length c.args.scratch.now) (omega arith) lengths.0,
     )
 
-pub round_down-down-requires-clause-total_bound : goal.round_down-down-requires-clause-total_bound
-round_down-down-requires-clause-total_bound c = omega (arith, weighted c.args.total c.args.ws.now c.requires.total_bound.2 (omega arith), c.sum_of-whole.ensures)
+pub new-divisor-requires : goal.new-divisor-requires
+new-divisor-requires c = omega (arith, weight (goal.at.new-divisor-requires c).After-sum_of-whole)
 
 pub overflow_sub-left : goal.overflow_sub-left
 overflow_sub-left c =
-    let t = c.args.total in
-    let ws = c.args.ws.now in
-    down_le t ws (weighted t ws c.requires.total_bound.2 (omega arith)) (rounded t _ ws _ _ _ _ _ c.sum_of-whole.ensures c.round_down-down.ensures)
+    let s = goal.at.overflow_sub-left c in
+    down_le c.args.total c.args.ws.now (weight s.After-sum_of-whole) (rounded s.After-round_down-down)
 
 pub returns-then-left-eq0 : goal.returns-then-left-eq0
 returns-then-left-eq0 c =
-    let t = c.args.total in
-    let ws = c.args.ws.now in
-    let h = rounded t _ ws _ _ _ _ _ c.sum_of-whole.ensures c.round_down-down.ensures in
-    (without_leftover t ws (weighted t ws c.requires.total_bound.2 (omega arith)) h (omega arith), h.is-remainders)
+    let s = goal.at.returns-then-left-eq0 c in
+    let d = rounded s.After-round_down-down in
+    (without_leftover c.args.total c.args.ws.now (weight s.After-sum_of-whole) d (omega arith), d.is-remainders)
 
-pub give_leftover-requires : goal.give_leftover-requires
-give_leftover-requires c =
+pub new-requires : goal.new-requires
+new-requires c =
+    let s = goal.at.new-requires c in
     let t = c.args.total in
     let ws = c.args.ws.now in
-    let h = rounded t _ ws _ _ _ _ _ c.sum_of-whole.ensures c.round_down-down.ensures in
-    let hp = weighted t ws c.requires.total_bound.2 (omega arith) in
-    record {
-      left_nonzero = (omega arith, left_le t ws hp h, positive-count t ws hp h, top_largest t ws hp h, omega (arith, top_under t ws hp h));
-      out_len = (plan.same_length t ws hp h, (λ j. omega (arith, out_le t ws hp h j)));
-    }
+    let d = rounded s.After-round_down-down in
+    let p = weight s.After-sum_of-whole in
+    (omega arith, left_le t ws p d, positive-count t ws p d, top_largest t ws p d, omega (arith, top_under t ws p d))
+
+pub give-requires : goal.give-requires
+give-requires c =
+    let s = goal.at.give-requires c in
+    let t = c.args.total in
+    let ws = c.args.ws.now in
+    let d = rounded s.After-round_down-down in
+    let p = weight s.After-sum_of-whole in
+    record { out_len = (plan.same_length t ws p d ∙ ap length (sym c.new.ensures.0), λ j. omega (arith, out_le t ws p d j)) }
 
 pub returns : goal.returns
 returns c =
+    let s = goal.at.returns c in
     let t = c.args.total in
     let ws = c.args.ws.now in
-    let h = rounded t _ ws _ _ _ _ _ c.sum_of-whole.ensures c.round_down-down.ensures in
-    (c.give_leftover.ensures ∙ with_leftover t ws (weighted t ws c.requires.total_bound.2 (omega arith)) h, h.is-remainders)
+    let d = rounded s.After-round_down-down in
+    (c.give.ensures ∙ ap₂ (λ (l : ℕ) (ks : List ℕ). added c.round_down-down.new.out (extras l [] ks)) c.new.ensures.1 c.new.ensures.0 ∙ with_leftover t ws (weight s.After-sum_of-whole) d, d.is-remainders)

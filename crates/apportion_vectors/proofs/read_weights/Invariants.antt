@@ -1,8 +1,5 @@
-use Rattle.std.proofs.Common.{◌≡◌, ◌-◌, ◌≤◌, length}
+use Rattle.std.proofs.Common.{◌≡◌, ◌+◌, ◌*◌, length}
 use Rattle.apportion_vectors.proofs.read_weights.Given as goal
 
-abbrev pub invariant-loop-i : goal.invariant-loop-i
-invariant-loop-i l = (l.i ≤ length l.initial.ws) × (length l.ws ≡ length l.initial.ws)
-
-abbrev pub decreases-loop-i : goal.decreases-loop-i
-decreases-loop-i l = length l.initial.ws - l.i
+abbrev pub invariant-loop-w : goal.invariant-loop-w
+invariant-loop-w l = length l.rest + 8 * l.w-index ≡ 8 * l.w-index-end

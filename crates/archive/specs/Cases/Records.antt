@@ -1,11 +1,9 @@
 -- Computed cases, from the bytes on: the record of case A (document 01, "Cases for the proofs") of each archive version read, damaged, cut, lengthened and written, and
 -- records that the archive versions settle differently (2026-01). One table, one theorem.
-use Rattle.std.specs.Prelude.{◌≡◌, refl, List, [], ◌∷◌, ◌++◌, map, ℕ, take, drop}
+use Rattle.std.specs.Prelude.{◌≡◌, refl, List, [], ◌∷◌, ◌++◌, map, ℕ, take, drop, Ok, Err}
 use Rattle.apportion.specs.Shares.{shares_by}
-use Rattle.sheet.specs.declared.refusal.Outcome.{Outcome}
-use Rattle.sheet.specs.declared.refusal.Outcome.TheVariants.{Accepted, Refused}
+use Rattle.sheet.specs.Refusals.{Outcome, number_of, place_of, first_refusal}
 use Rattle.sheet.specs.Tests.{all, any}
-use Rattle.sheet.specs.Refusals.{number_of, place_of, first_refusal}
 use Rattle.sheet.specs.Layout.{unit_row, rows, sheet_of, in_bytes}
 use Rattle.sheet.specs.Check.{header_tests, row_tests, field_rules, row_rules, sheet_rules}
 use Rattle.sheet.specs.Cases.Samples.{zeros, put, unit_bytes, joined, sheet_bytes, case_a}
@@ -66,8 +64,8 @@ pub data Answer : Type 0 where
   refuses : (number place : ℕ) → List ℕ → Answer
 
 abbrev answer : Outcome → List ℕ → Answer
-answer Accepted bytes = accepts bytes
-answer (Refused r) bytes = refuses (number_of r) (place_of r) bytes
+answer (Ok tt) bytes = accepts bytes
+answer (Err r) bytes = refuses (number_of r) (place_of r) bytes
 
 reads : List ℕ → Answer
 reads bytes = let o = read_outcome bytes in answer o (take (count_of o bytes) (drop (start_of o) bytes))

@@ -1,14 +1,12 @@
 -- Computed cases of fixed charges, from the sheet's bytes on, worked by hand: accepted calls with all numbers, and each refusal with its place and order (2026-05).
-use Rattle.std.specs.Prelude.{◌≡◌, refl, List, [], ◌∷◌, ◌++◌, map, ℕ, replicate}
+use Rattle.std.specs.Prelude.{◌≡◌, refl, List, [], ◌∷◌, ◌++◌, map, ℕ, replicate, Ok, Err}
 use Rattle.apportion.specs.Shares.{shares_by}
 use Rattle.sheet.specs.Tests.{all, any}
 use Rattle.sheet.specs.declared.refusal.Refusal.{Refusal}
 use Rattle.sheet.specs.declared.refusal.Refusal.TheVariants.{TooShort, BadMagic, UnsupportedVersion, HeaderField, WrongLength, RowField, IdOrder, HotWaterExceedsMeter, ZeroDivisor, NoReadings, MetersExceedHeat, UnmeteredExceedsHeat, BufferLength, FieldConflict}
-use Rattle.sheet.specs.declared.refusal.Outcome.{Outcome}
-use Rattle.sheet.specs.declared.refusal.Outcome.TheVariants.{Accepted, Refused}
+use Rattle.sheet.specs.Refusals.{Outcome, place_of, first_refusal}
 use Rattle.sheet.specs.declared.rule_set.RuleSet.{RuleSet}
 use Rattle.sheet.specs.declared.rule_set.RuleSet.TheVariants.{Archive1, Archive2}
-use Rattle.sheet.specs.Refusals.{place_of, first_refusal}
 use Rattle.sheet.specs.Layout.{in_bytes, unit_row, rows, sheet_of}
 use Rattle.sheet.specs.Check.{header_tests, row_tests, field_rules, row_rules, sheet_rules}
 use Rattle.sheet.specs.Cases.Samples.{zeros, put, unit_bytes, joined, sheet_bytes, sheet_a}
@@ -77,7 +75,7 @@ settling : List ℕ → Outcome
 settling bytes = first_refusal (settle_rules bytes)
 
 -- 8 to 12
-not-settled : map settling unsettled ≡ Refused HotWaterExceedsMeter ∷ Refused ZeroDivisor ∷ Refused NoReadings ∷ Refused MetersExceedHeat ∷ Refused UnmeteredExceedsHeat ∷ []
+not-settled : map settling unsettled ≡ Err HotWaterExceedsMeter ∷ Err ZeroDivisor ∷ Err NoReadings ∷ Err MetersExceedHeat ∷ Err UnmeteredExceedsHeat ∷ []
 unfolding unsettled settling pair watered unit_bytes joined sheet_bytes in_bytes
     shares_by all any first_refusal unit_row rows sheet_of header_tests row_tests field_rules row_rules sheet_rules
     all_metered metered_sum has_pool total_area unread_weight unread_weights read_surface units_of_class litres_of_class1 persons_of_class2
@@ -91,8 +89,8 @@ record Reply : Type 0 where
   list : List ℕ
 
 abbrev place_by : Outcome → ℕ
-place_by Accepted = 0
-place_by (Refused r) = place_of r
+place_by (Ok tt) = 0
+place_by (Err r) = place_of r
 
 -- the list lent
 sevens : ℕ → List ℕ
@@ -105,11 +103,11 @@ call rules bytes model power buyer supplier room =
     record { outcome = answer; place = place_by answer; list = charges_after rules bytes model a (sevens room) }
 
 numbers : List ℕ → Reply
-numbers list = record { outcome = Accepted; place = 0; list = list }
+numbers list = record { outcome = Ok tt; place = 0; list = list }
 
 -- refused, with the list as it was
 keeps : Refusal → (place room : ℕ) → Reply
-keeps r place room = record { outcome = Refused r; place = place; list = sevens room }
+keeps r place room = record { outcome = Err r; place = place; list = sevens room }
 
 -- ---- the table: what the definitions give, and what is expected
 infix 70 ◌gives◌

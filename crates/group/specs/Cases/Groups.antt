@@ -1,15 +1,13 @@
 -- Computed cases of groups, from the bytes on, worked by hand: settled groups with all numbers, unrounded portions, and each refusal with its building, place and order (2026-04).
-use Rattle.std.specs.Prelude.{Bool, true, ◌≡◌, refl, ℕ, ◌+◌, ltb, ℤ, pos, neg_ℤ, ◌*ℤ◌, length, get_or, drop, replicate}
+use Rattle.std.specs.Prelude.{Bool, true, ◌≡◌, refl, ℕ, ◌+◌, ltb, ℤ, pos, neg_ℤ, ◌*ℤ◌, length, get_or, drop, replicate, Ok, Err}
 use mathlib.Core.List.{List, [], ◌∷◌, ◌++◌, map, zip_with}
 use Rattle.apportion.specs.Shares.{shares_by}
 use Rattle.sheet.specs.Tests.{all, any}
 use Rattle.sheet.specs.declared.refusal.Refusal.{Refusal}
 use Rattle.sheet.specs.declared.refusal.Refusal.TheVariants.{TooShort, HeaderField, RowField, IdOrder, ZeroDivisor, BufferLength, FieldConflict, NegativeCommonHeat, BadGroup}
-use Rattle.sheet.specs.declared.refusal.Outcome.{Outcome}
-use Rattle.sheet.specs.declared.refusal.Outcome.TheVariants.{Accepted, Refused}
+use Rattle.sheet.specs.Refusals.{first_refusal}
 use Rattle.sheet.specs.declared.rule_set.RuleSet.{RuleSet}
 use Rattle.sheet.specs.declared.rule_set.RuleSet.TheVariants.{Archive1, Archive2}
-use Rattle.sheet.specs.Refusals.{first_refusal}
 use Rattle.sheet.specs.Layout.{in_bytes, unit_row, rows, sheet_of}
 use Rattle.sheet.specs.Check.{header_tests, row_tests, field_rules, row_rules, sheet_rules}
 use Rattle.sheet.specs.Cases.Samples.{zeros, put, unit_bytes, joined as joinedRows, sheet_bytes, heated, sheet_a, case_a}
@@ -19,9 +17,8 @@ use Rattle.month.specs.Steps.{unrounded, split_by, in_unit_order, unit_by_unit, 
 use Rattle.month.specs.Month.{hot_water_wh, space_heat_wh, zero_water_divisor, zero_divisor, month_rules, four_and_four, settle_rules}
 use Rattle.month.specs.Cases.Months.{units_d}
 use Rattle.group.specs.declared.buildings.Building.{Building}
-use Rattle.group.specs.declared.answer.GroupAnswer.{GroupAnswer}
 use Rattle.group.specs.Group.{difference, joined, difference_shares, common_heats, building_energies, group_energies, shared_price, shared_bill, adjusted_readings, bill_parts, group_costs, common_heat_below_zero, group_units, group_statement}
-use Rattle.group.specs.Answer.{group_of, bad_group, first_in, own_stages, unlike, group_stages, group_answer, place_in, group_after}
+use Rattle.group.specs.Answer.{group_of, bad_group, GroupAnswer, refused_in, first_in, own_stages, unlike, group_stages, group_answer, place_in, group_after}
 
 -- ---- sheets in bytes: of month 1 and price 10,000, without hot water, if nothing else is said
 -- model 2, p 400 and 600: no common heat
@@ -95,9 +92,9 @@ record Reply : Type 0 where
   place : ℕ
   list : List ℕ
 
-abbrev place_by : GroupAnswer → Outcome → ℕ
-place_by a Accepted = 0
-place_by a (Refused r) = place_in a r
+abbrev place_by : GroupAnswer → ℕ
+place_by (Ok tt) = 0
+place_by (Err e) = place_in e
 
 -- the list lent
 sevens : ℕ → List ℕ
@@ -107,17 +104,17 @@ sevens room = replicate room 7
 call : RuleSet → List ℕ → List Building → (reading room : ℕ) → Reply
 call rules buffer bs reading room =
     let a = group_answer rules buffer bs reading (sevens room) in
-    record { answer = a; place = place_by a a.outcome; list = group_after rules buffer bs reading (sevens room) }
+    record { answer = a; place = place_by a; list = group_after rules buffer bs reading (sevens room) }
 
 group : RuleSet → List (List ℕ) → (reading room : ℕ) → Reply
 group rules sheets reading room = call rules (joinedRows sheets) (placed_from 0 sheets) reading room
 
 numbers : List ℕ → Reply
-numbers list = record { answer = record { outcome = Accepted; building = 0 }; place = 0; list = list }
+numbers list = record { answer = Ok tt; place = 0; list = list }
 
 -- refused, with the list as it was
 keeps : Refusal → (building place room : ℕ) → Reply
-keeps r building place room = record { answer = record { outcome = Refused r; building = building }; place = place; list = sevens room }
+keeps r building place room = record { answer = Err (refused_in building r); place = place; list = sevens room }
 
 -- ---- the tables: what the definitions give, and what is expected
 infix 70 ◌gives◌
@@ -401,13 +398,13 @@ portion_cases_lem Archive1 = refl
 portion_cases_lem Archive2 = refl
 
 -- ---- places: raised by 160 × the building, 0 and 4's byte too
-abbrev refused_in : (building : ℕ) → Refusal → ℕ
-refused_in building r = place_in (record { outcome = Refused r; building = building }) r
+abbrev raised : (building : ℕ) → Refusal → ℕ
+raised building r = place_in (refused_in building r)
 
 places :
-    refused_in 0 TooShort ∷ refused_in 0 (HeaderField 44) ∷ refused_in 0 (RowField 159)
-    ∷ refused_in 1 TooShort ∷ refused_in 1 (HeaderField 44) ∷ refused_in 1 (RowField 159)
-    ∷ refused_in 11 ZeroDivisor ∷ refused_in 11 (IdOrder 159)
+    raised 0 TooShort ∷ raised 0 (HeaderField 44) ∷ raised 0 (RowField 159)
+    ∷ raised 1 TooShort ∷ raised 1 (HeaderField 44) ∷ raised 1 (RowField 159)
+    ∷ raised 11 ZeroDivisor ∷ raised 11 (IdOrder 159)
     ∷ []
     ≡ 0 ∷ 44 ∷ 159 ∷ 160 ∷ 204 ∷ 319 ∷ 1760 ∷ 1919 ∷ []
 places = refl

@@ -4,7 +4,6 @@ use Rattle.sheet.specs.Inner.Places.{PlaceBelow}
 use Rattle.charges.specs.Charges.{amounts}
 use Rattle.charges.proofs.Places.{charge_place}
 use Rattle.heatcost.specs.Answer.{answer_number}
-use borrow.Author.Rules.{rules}
 use Rattle.heatcost.proofs.heatcost_fixed_charges.Goals as goal
 
 pub answer-requires : goal.answer-requires

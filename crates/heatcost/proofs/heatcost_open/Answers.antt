@@ -4,7 +4,6 @@ use Rattle.sheet.specs.Inner.Places.{PlaceBelow}
 use Rattle.yearbook.specs.LentBook.{lent}
 use Rattle.yearbook.proofs.Places.{open_place}
 use Rattle.heatcost.specs.Answer.{answer_number}
-use borrow.Author.Rules.{rules}
 use Rattle.heatcost.proofs.heatcost_open.Goals as goal
 
 pub answer-requires : goal.answer-requires

@@ -3,7 +3,6 @@ use mathlib.Core.Path.{ap, subst, sym, ◌∙◌}
 use Rattle.sheet.specs.Inner.Places.{PlaceBelow}
 use Rattle.archive.proofs.Places.{read-place}
 use Rattle.heatcost.specs.Answer.{answer_number}
-use borrow.Author.Rules.{rules}
 use Rattle.heatcost.proofs.heatcost_read_record.Goals as goal
 
 pub answer-requires : goal.answer-requires

@@ -2,7 +2,6 @@
 use mathlib.Core.Path.{ap, ◌∙◌}
 use lib.ListN.{length}
 use Rattle.archive.proofs.Places.{part_length}
-use borrow.Author.Rules.{rules}
 use Rattle.heatcost.proofs.heatcost_record_sheet_len.Goals as goal
 
 pub returns : goal.returns

@@ -4,7 +4,6 @@ use Rattle.sheet.specs.Inner.Places.{PlaceBelow}
 use Rattle.yearbook.specs.LentBook.{lent, replace_answer, lent_reply, lent_after}
 use Rattle.yearbook.proofs.Places.{replace-place, same_outcome}
 use Rattle.heatcost.specs.Answer.{answer_number}
-use borrow.Author.Rules.{rules}
 use Rattle.heatcost.proofs.heatcost_replace.Goals as goal
 
 pub answer-requires : goal.answer-requires

@@ -4,7 +4,6 @@ use Rattle.sheet.specs.Inner.Places.{PlaceBelow}
 use Rattle.sheet.specs.RuleSets.{newest}
 use Rattle.settlement.proofs.Places.{answer-place}
 use Rattle.heatcost.specs.Answer.{answer_number}
-use borrow.Author.Rules.{rules}
 use Rattle.heatcost.proofs.heatcost_settle.Goals as goal
 
 pub answer-requires : goal.answer-requires

@@ -1,26 +1,11 @@
--- `put_totals` meets its contract: k and the sums so far.
-use mathlib.Core.Path.{◌≡◌, refl, sym, ap, ◌∙◌}
-use mathlib.Core.List.{List, ◌∷◌}
-use Prim.Native.Nat.{ℕ, ◌+◌, ◌-◌, ◌≤◌}
+-- `put_totals` meets its contract.
+use mathlib.Core.Path.{ap}
 use native.Mathlib.Omega.{arith}
-use borrow.Author.Rules.{rules}
-use lib.ListN.{length, take, length-set}
-use lib.Seq.{take_all, take-suc-set}
-use Rattle.heatcost.proofs.YearList.{next-sum}
+use lib.ListN.{length}
+use Rattle.heatcost.proofs.YearList.{front_and_rest}
 use Rattle.heatcost.proofs.put_totals.Goals as goal
-
-pub loop-j-init : goal.loop-j-init
-loop-j-init c = (omega arith, (simp length-set c.requires.1, take-suc-set c.args.totals.now 0 c.args.k (omega arith)))
-
-pub loop-j-preserved : goal.loop-j-preserved
-loop-j-preserved c =
-    let a = c.args in
-    let l = c.loop-j in
-    (omega arith, (simp length-set l.invariant.1.0, next-sum a.k l.j _ a.sums.now l.totals (omega arith) (omega arith) refl l.invariant.1.1))
 
 pub returns : goal.returns
 returns c =
     let a = c.args in
-    let l = c.loop-j in
-    let e : l.j ≡ 8 = omega arith in
-    sym (take_all (1 + l.j) l.totals (omega arith)) ∙ l.invariant.1.1 ∙ ap (λ (x : List ℕ). a.k ∷ x) (take_all l.j a.sums.now (omega arith))
+    rw (c.from.ensures, c.copy_from_slice.ensures.after) (front_and_rest a.year.now.k a.year.now.sums a.totals.now (omega (arith, c.copy_from_slice.ensures.len, ap length c.copy_from_slice.ensures.after)))

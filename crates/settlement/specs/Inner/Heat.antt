@@ -2,12 +2,12 @@
 use Rattle.std.specs.Prelude.{◌≡◌, false, List, ℕ, ◌≤◌, ◌<◌, replicate}
 use Rattle.apportion.specs.Shares.{sum}
 use Rattle.sheet.specs.declared.rule_set.RuleSet.{RuleSet}
-use Rattle.sheet.specs.Layout.{Sheet, sheet_of}
+use Rattle.sheet.specs.Layout.{Sheet}
 use Rattle.month.specs.Weights.{all_metered}
 use Rattle.month.specs.Steps.{whole_wh, split_by, heat_parts, energies_with}
-use Rattle.weights.specs.Inner.Ready.{Accepts}
+use Rattle.weights.specs.Inner.Months.{sheet_of_month}
 use Rattle.settlement.specs.declared.divide.Parts.{Parts}
-use Rattle.weights.specs.declared.basis.Basis.{Basis}
+use Rattle.weights.specs.declared.accepted.Month.{Month}
 
 -- (100 − percent, percent) parts a total alike by all rules
 pub record SplitParts (percent total : ℕ) (parts : Parts) : Type 0 where
@@ -19,22 +19,20 @@ pub record HeatParts (rules : RuleSet) (s : Sheet) (parts : Parts) : Type 0 wher
   pub units : parts.units ≡ (heat_parts whole_wh rules s).of_units
   pub common : parts.common ≡ (heat_parts whole_wh rules s).common
 
--- units' heat of a sheet that is not refused, and a list of zeros for 160 units
-pub record UnitsHeat (bytes : List ℕ) (b : Basis) (total : ℕ) (out : List ℕ) : Type 0 where
-  pub accepts : Accepts bytes b
-  pub total-is : total ≡ (heat_parts whole_wh b.rules (sheet_of bytes)).of_units
+-- units' heat of a month, and a list of zeros for 160 units
+pub record UnitsHeat (m : Month) (total : ℕ) (out : List ℕ) : Type 0 where
+  pub total-is : total ≡ (heat_parts whole_wh m.basis.rules (sheet_of_month m)).of_units
   pub zeros : out ≡ replicate 160 0
 
 -- models 3 to 5, step 2's exception apart
-pub record ByReadings (bytes : List ℕ) (b : Basis) (total : ℕ) (out : List ℕ) : Type 0 where
-  pub asked : UnitsHeat bytes b total out
-  pub model : 2 < (sheet_of bytes).model
-  pub unmetered : all_metered (sheet_of bytes) ≡ false
+pub record ByReadings (m : Month) (total : ℕ) (out : List ℕ) : Type 0 where
+  pub asked : UnitsHeat m total out
+  pub model : 2 < (sheet_of_month m).model
+  pub unmetered : all_metered (sheet_of_month m) ≡ false
 
--- a sheet that is not refused, with the units' heat of step 2, and what steps 5 and 7 divide
-pub record Charged (bytes : List ℕ) (b : Basis) (parts : Parts) (bill : ℕ) : Type 0 where
-  pub accepts : Accepts bytes b
-  pub units : parts.units ≡ (heat_parts whole_wh b.rules (sheet_of bytes)).of_units
+-- a month with the units' heat of step 2, and what steps 5 and 7 divide
+pub record Charged (m : Month) (parts : Parts) (bill : ℕ) : Type 0 where
+  pub units : parts.units ≡ (heat_parts whole_wh m.basis.rules (sheet_of_month m)).of_units
   pub common-fits : parts.common ≤ 4000000000
   pub bill-fits : bill ≤ 400000000
-  pub divisible : sum (energies_with whole_wh b.rules (sheet_of bytes) parts.common) ≡ 0 → bill ≡ 0
+  pub divisible : sum (energies_with whole_wh m.basis.rules (sheet_of_month m) parts.common) ≡ 0 → bill ≡ 0

@@ -1,11 +1,9 @@
 -- Computed cases of the ranges (document 01, "The sheet"; 2026-03), from the bytes on: each field passes at its lowest and its highest number, and not one below or one above; a clash is told
 -- from its lowest to its highest number. One table, one theorem.
-use Rattle.std.specs.Prelude.{◌≡◌, refl, List, [], ◌∷◌, ◌++◌, map, ℕ, zero, suc, ◌+◌, ◌-◌, ◌/◌, ◌%◌, eqb, get_or, take, if◌then◌else◌}
+use Rattle.std.specs.Prelude.{◌≡◌, refl, List, [], ◌∷◌, ◌++◌, map, ℕ, zero, suc, ◌+◌, ◌-◌, ◌/◌, ◌%◌, eqb, get_or, take, if◌then◌else◌, Ok, Err}
 use Rattle.sheet.specs.declared.refusal.Refusal.{Refusal}
-use Rattle.sheet.specs.declared.refusal.Outcome.{Outcome}
-use Rattle.sheet.specs.declared.refusal.Outcome.TheVariants.{Accepted, Refused}
+use Rattle.sheet.specs.Refusals.{Outcome, first_refusal}
 use Rattle.sheet.specs.declared.refusal.Refusal.TheVariants.{HeaderField, WrongLength, RowField, FieldConflict}
-use Rattle.sheet.specs.Refusals.{first_refusal}
 use Rattle.sheet.specs.Layout.{in_bytes, unit_row, rows, sheet_of}
 use Rattle.sheet.specs.Check.{header_tests, row_tests, field_rules, row_rules, sheet_rules, checked}
 use Rattle.sheet.specs.Cases.Samples.{zeros, put, unit_bytes, joined, sheet_bytes}
@@ -155,11 +153,11 @@ answers part (sheets passes ends else r) = map (λ x. checked 32 (part (sheets x
 answers part (sheets clashes low to high) = map (λ x. checked 32 (part (sheets x))) (one_below low ++ low ∷ high ∷ (high + 1) ∷ [])
 
 abbrev expected : Outcome → Line → List Outcome
-expected fine (sheets passes ends else r) = map (λ _. fine) (inside ends) ++ map (λ _. Refused r) (outside ends)
-expected fine (sheets clashes ends) = fine ∷ Refused (FieldConflict 0) ∷ Refused (FieldConflict 0) ∷ Refused (RowField 0) ∷ []
+expected fine (sheets passes ends else r) = map (λ _. fine) (inside ends) ++ map (λ _. Err r) (outside ends)
+expected fine (sheets clashes ends) = fine ∷ Err (FieldConflict 0) ∷ Err (FieldConflict 0) ∷ Err (RowField 0) ∷ []
 
 -- A field of the header is tested on the 48 bytes of the header alone: those that pass 4 are refused by 5.
 ranges-right : map (answers (take 48)) header ++ map (answers (λ bytes. bytes)) (row ++ conflicts)
-    ≡ map (expected (Refused WrongLength)) header ++ map (expected Accepted) (row ++ conflicts)
+    ≡ map (expected (Err WrongLength)) header ++ map (expected (Ok tt)) (row ++ conflicts)
 unfolding unit_bytes joined sheet_bytes in_bytes first_refusal unit_row rows sheet_of header_tests row_tests field_rules row_rules sheet_rules checked
 ranges-right = refl

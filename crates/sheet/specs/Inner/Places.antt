@@ -1,13 +1,11 @@
 -- A fact of a refusal, if there is one; its number, and how far its place goes. proofs/Places.antt shows it.
-use Rattle.std.specs.Prelude.{◌≡◌, ◌⊎◌, ℕ, ◌≤◌, ◌<◌}
+use Rattle.std.specs.Prelude.{◌≡◌, ◌⊎◌, ℕ, ◌≤◌, ◌<◌, Ok, Err}
 use Rattle.sheet.specs.declared.refusal.Refusal.{Refusal}
-use Rattle.sheet.specs.declared.refusal.Outcome.{Outcome}
-use Rattle.sheet.specs.declared.refusal.Outcome.TheVariants.{Accepted, Refused}
-use Rattle.sheet.specs.Refusals.{number_of, place_of}
+use Rattle.sheet.specs.Refusals.{Outcome, number_of, place_of}
 
 abbrev pub IfRefused : (Refusal → Type 0) → Outcome → Type 0
-IfRefused P Accepted = Unit {0}
-IfRefused P (Refused r) = P r
+IfRefused P (Ok tt) = Unit {0}
+IfRefused P (Err r) = P r
 
 -- a refusal's place is below k
 abbrev pub PlaceBelow : ℕ → Outcome → Type 0

@@ -1,5 +1,5 @@
 -- The sums over the units: what one unit adds, the sums of document 01, and how large they can be.
-use Rattle.std.specs.Prelude.{◌≡◌, Bool, not, ℕ, ◌+◌, ◌*◌, ◌≤◌, eqb, length, if◌then◌else◌}
+use Rattle.std.specs.Prelude.{Bool, not, ℕ, ◌+◌, ◌*◌, ◌≤◌, eqb, length, if◌then◌else◌}
 use Rattle.apportion.specs.Shares.{sum}
 use Rattle.sheet.specs.Layout.{Sheet, UnitRow}
 use Rattle.month.specs.Weights.{sum_of, is_read, read_units, unread_weight, total_area, unread_weights, read_area, read_surface, reading_sum, units_of_class, litres_of_class1, persons_of_class2, common_water_weight}
@@ -42,20 +42,21 @@ plus_totals a b = record {
 }
 
 -- the sums of document 01
-pub record TotalsOf (s : Sheet) (t : Totals) : Type 0 where
-  pub area : t.area ≡ total_area s  -- P
-  pub load : t.load ≡ sum_of (λ u. u.heat_load) s.units
-  pub class1 : t.class1 ≡ units_of_class 1 s  -- n1
-  pub class2 : t.class2 ≡ units_of_class 2 s  -- n2
-  pub litres : t.litres ≡ litres_of_class1 s  -- L
-  pub persons2 : t.persons2 ≡ persons_of_class2 s  -- N2
-  pub persons : t.persons ≡ sum_of common_water_weight s.units
-  pub unread : t.unread ≡ sum (unread_weights s)
-  pub read : t.read ≡ length (read_units s)
-  pub readarea : t.readarea ≡ read_area s  -- A
-  pub surface : t.surface ≡ read_surface s  -- S
-  pub readings : t.readings ≡ reading_sum s  -- B
-  pub impulses : s.model ≤ 4 → t.readings ≤ 8000000
+abbrev pub totals_in : Sheet → Totals
+totals_in s = record {
+  area = total_area s;  -- P
+  load = sum_of (λ u. u.heat_load) s.units;
+  class1 = units_of_class 1 s;  -- n1
+  class2 = units_of_class 2 s;  -- n2
+  litres = litres_of_class1 s;  -- L
+  persons2 = persons_of_class2 s;  -- N2
+  persons = sum_of common_water_weight s.units;
+  unread = sum (unread_weights s);
+  read = length (read_units s);
+  readarea = read_area s;  -- A
+  surface = read_surface s;  -- S
+  readings = reading_sum s;  -- B
+}
 
 -- at most, for n units
 pub record Within (n : ℕ) (t : Totals) : Type 0 where

@@ -1,10 +1,8 @@
 -- Computed cases of the order of refusals where a book, its sums and a sheet are lent: open 15, 1 to 7 with 20, 19; post and replace 15, 1 to 12 with 20, 16, 17, 19. One table, one theorem.
-use Rattle.std.specs.Prelude.{◌≡◌, refl, List, [], ◌∷◌, ◌++◌, map, ℕ}
-use Rattle.sheet.specs.declared.refusal.Outcome.{Outcome}
-use Rattle.sheet.specs.declared.refusal.Outcome.TheVariants.{Refused}
+use Rattle.std.specs.Prelude.{◌≡◌, refl, List, [], ◌∷◌, ◌++◌, map, ℕ, Err}
+use Rattle.sheet.specs.Refusals.{Outcome, first_refusal}
 use Rattle.sheet.specs.declared.refusal.Refusal.TheVariants.{HeaderField, FieldConflict, UnmeteredExceedsHeat, BadYearBook, OtherBuilding, MonthState, BadYearSums}
 use Rattle.sheet.specs.Tests.{all, any}
-use Rattle.sheet.specs.Refusals.{first_refusal}
 use Rattle.sheet.specs.Layout.{in_bytes, unit_row, rows, sheet_of}
 use Rattle.sheet.specs.Check.{header_tests, row_tests, field_rules, row_rules, sheet_rules}
 use Rattle.sheet.specs.Cases.Samples.{put, zeros, unit_bytes, joined, sheet_bytes}
@@ -58,25 +56,25 @@ replaces book sheet = replace_answer (lent book []) sheet
 
 cases : List Case
 cases =
-    (opens [] clash gives Refused BadYearBook)
-    ∷ (opens empty clash gives Refused (FieldConflict 1))
-    ∷ (opens empty header gives Refused (HeaderField 13))
-    ∷ (opens empty over gives Refused BadYearSums)
-    ∷ (posts (161 ∷ zeros 15556) clash gives Refused BadYearBook)
-    ∷ (posts empty clash gives Refused (FieldConflict 1))
-    ∷ (posts empty header gives Refused (HeaderField 13))
-    ∷ (posts empty over gives Refused UnmeteredExceedsHeat)
-    ∷ (posts empty good gives Refused OtherBuilding)
-    ∷ (posts (book 1) clash gives Refused (FieldConflict 1))
-    ∷ (posts (book 1) over gives Refused UnmeteredExceedsHeat)
-    ∷ (posts (book 1) good gives Refused MonthState)
-    ∷ (posts (book 0) good gives Refused BadYearSums)
-    ∷ (replaces (book 2) clash gives Refused BadYearBook)
-    ∷ (replaces (book 0) clash gives Refused (FieldConflict 1))
-    ∷ (replaces (book 0) header gives Refused (HeaderField 13))
-    ∷ (replaces (book 0) over gives Refused UnmeteredExceedsHeat)
-    ∷ (replaces (book 0) good gives Refused MonthState)
-    ∷ (replaces (book 1) good gives Refused BadYearSums)
+    (opens [] clash gives Err BadYearBook)
+    ∷ (opens empty clash gives Err (FieldConflict 1))
+    ∷ (opens empty header gives Err (HeaderField 13))
+    ∷ (opens empty over gives Err BadYearSums)
+    ∷ (posts (161 ∷ zeros 15556) clash gives Err BadYearBook)
+    ∷ (posts empty clash gives Err (FieldConflict 1))
+    ∷ (posts empty header gives Err (HeaderField 13))
+    ∷ (posts empty over gives Err UnmeteredExceedsHeat)
+    ∷ (posts empty good gives Err OtherBuilding)
+    ∷ (posts (book 1) clash gives Err (FieldConflict 1))
+    ∷ (posts (book 1) over gives Err UnmeteredExceedsHeat)
+    ∷ (posts (book 1) good gives Err MonthState)
+    ∷ (posts (book 0) good gives Err BadYearSums)
+    ∷ (replaces (book 2) clash gives Err BadYearBook)
+    ∷ (replaces (book 0) clash gives Err (FieldConflict 1))
+    ∷ (replaces (book 0) header gives Err (HeaderField 13))
+    ∷ (replaces (book 0) over gives Err UnmeteredExceedsHeat)
+    ∷ (replaces (book 0) good gives Err MonthState)
+    ∷ (replaces (book 1) good gives Err BadYearSums)
     ∷ []
 
 all-cases : map (λ (c : Case). c.answer) cases ≡ map (λ (c : Case). c.expected) cases

@@ -1,45 +1,34 @@
--- Post and replace as one call, and what it knows of its sheet before 16 and 17.
-use Rattle.std.specs.Prelude.{◌≡◌, Bool, true, false, not, List, ℕ, ◌*◌, ◌≤◌, ◌<◌, eqb, length, get_or}
-use Rattle.sheet.specs.declared.refusal.Outcome.TheVariants.{Accepted}
+-- Post and replace as one call.
+use Rattle.std.specs.Prelude.{◌≡◌, Bool, not, List, ℕ}
 use Rattle.sheet.specs.RuleSets.{newest}
 use Rattle.sheet.specs.Layout.{sheet_of}
-use Rattle.sheet.specs.Check.{checked}
-use Rattle.month.specs.Month.{month_of, Settled, settled_sheet}
-use Rattle.year_sums.specs.Inner.Update.{if_taken}
+use Rattle.month.specs.Month.{Settled, month_of, settled_sheet}
+use Rattle.yearbook.specs.declared.bring.Entry.{Entry}
+use Rattle.yearbook.specs.declared.bring.Entry.TheVariants.{Post, Replace}
 use Rattle.yearbook.specs.Calls.{Call, post, replace}
-use Rattle.yearbook.specs.LentBook.{book_length, block_length, mark_at, place_of_month, bad_book, block_in, block_of}
+use Rattle.yearbook.specs.LentBook.{zero_block, place_of_month, marked, block_in, block_of}
 
-abbrev pub bring_call : (replacing : Bool) → List ℕ → Call
-bring_call false sheet = post sheet
-bring_call true sheet = replace sheet
+abbrev pub bring_call : Entry → List ℕ → Call
+bring_call Post sheet = post sheet
+bring_call Replace sheet = replace sheet
 
--- 17 by the month's mark: it stands (post) or doesn't (replace)
-abbrev pub wrong_mark : (replacing : Bool) → (mark : ℕ) → Bool
-wrong_mark false mark = eqb mark 1
-wrong_mark true mark = not (eqb mark 1)
+-- 17: the month stands (post) or doesn't (replace)
+abbrev pub wrong_state : Entry → (stands : Bool) → Bool
+wrong_state Post stands = stands
+wrong_state Replace stands = not stands
 
-abbrev pub wrong_month : (replacing : Bool) → List ℕ → List ℕ → Bool
-wrong_month replacing b sheet = wrong_mark replacing (get_or b (mark_at (place_of_month sheet)) 0)
+abbrev pub wrong_month : Entry → List ℕ → List ℕ → Bool
+wrong_month entry b sheet = wrong_state entry (marked b (place_of_month sheet))
 
 -- what it takes off the sums: nothing (post) or the month's block (replace)
-abbrev pub taken_off : (replacing : Bool) → List ℕ → List ℕ → List ℕ
-taken_off replacing b sheet = if_taken replacing (block_in b (place_of_month sheet))
+abbrev pub old_block : Entry → (block : List ℕ) → List ℕ
+old_block Post block = zero_block
+old_block Replace block = block
 
--- a block of n units for the month at place i
-pub record NewBlock (b : List ℕ) (i n : ℕ) (block : List ℕ) : Type 0 where
-  pub size : length b ≡ book_length
-  pub low : i < 12
-  pub few : n ≤ 160
-  pub full : length block ≡ block_length
-  pub rest : (k : ℕ) → 8 * n ≤ k → get_or block k 0 ≡ 0
+abbrev pub taken_off : Entry → List ℕ → List ℕ → List ℕ
+taken_off entry b sheet = old_block entry (block_in b (place_of_month sheet))
 
--- a book that 15 doesn't refuse, and a sheet that passes 1 to 7
-pub record Passed (b sheet : List ℕ) : Type 0 where
-  pub sound : bad_book b ≡ false
-  pub checked-sheet : checked 32 sheet ≡ Accepted
-
--- and 8 to 12, with its block
-pub record Brings (b sheet block : List ℕ) : Type 0 where
-  pub passed : Passed b sheet
+-- a sheet that 1 to 12 don't refuse, and its block
+pub record Settles (sheet block : List ℕ) : Type 0 where
   pub settles : settled_sheet newest sheet ≡ Settled.settled (month_of newest (sheet_of sheet))
   pub block-is : block ≡ block_of sheet

@@ -1,90 +1,53 @@
--- `round_down` meets its contract: what is written, summed, compared and counted so far, with what the rest of the weights gives, makes the whole.
-use mathlib.Core.Path.{◌≡◌, refl, ap, ◌∙◌}
+-- `round_down` meets its contract: what is written, summed, compared and counted of one weight more.
+use mathlib.Core.Path.{ap}
 use mathlib.Core.List.{List, map}
-use Prim.Native.Nat.{ℕ, ◌+◌, ◌≤◌, ◌<◌}
+use Prim.Native.Nat.{ℕ, ◌+◌}
 use native.Mathlib.Omega.{arith}
-use lib.Dec.{leb}
-use lib.ListN.{length, drop, get_or, length-map, length-set, drop_of_length-le}
-use Rattle.apportion.specs.Shares.{sum, bit, at_least, quota, remainder}
-use Rattle.apportion.specs.Inner.Selection.{largest}
-use Rattle.apportion.proofs.Counting.{count_le}
-use Rattle.apportion.proofs.Leftover.{quotas_le, quota_le, item_le}
-use Rattle.apportion.proofs.Steps.{next-drop, turn-map, whole-list}
+use lib.Dec.{ltb}
+use lib.Seq.{length-take-le}
+use lib.ListN.{get_or, take, length-map, length-set}
+use Rattle.std.proofs.lemmas.List.{take_more, take_more_set}
+use Rattle.apportion.specs.Shares.{sum, quota, remainder}
+use Rattle.apportion.proofs.Counting.{count_le, from_bool_le}
+use Rattle.apportion.proofs.Leftover.{quotas_le, sum-take-le, sum-quotas, rounded_more}
 use Rattle.apportion.proofs.quotas.round_down.Goals as goal
-use Rattle.apportion.proofs.quotas.round_down.Goals.{After-one_if-positive}
-
-pub loop-i-init : goal.loop-i-init
-loop-i-init c = (omega arith, omega arith, omega arith, omega arith, omega arith, omega arith, refl, refl)
-
-pub mul_div-o-requires : goal.mul_div-o-requires
-mul_div-o-requires c = omega (arith, item_le c.args.ws.now c.loop-i.i)
-
-pub overflow_cast-out : goal.overflow_cast-out
-overflow_cast-out c =
-    let a = c.args in
-    let w = get_or a.ws.now c.loop-i.i 0 in
-    omega (arith, quota_le a.total a.whole w (omega arith) (omega (arith, item_le a.ws.now c.loop-i.i)))
 
 pub overflow_add-down : goal.overflow_add-down
 overflow_add-down c =
     let a = c.args in
-    let p = c.requires.total_bound in
+    let l = c.loop-i in
+    let ws = a.ws.now in
     omega (
       arith,
-      c.mul_div-o.ensures.0,
-      quotas_le a.total a.whole p.1 a.ws.now p.3,
-      ap (λ (r : List ℕ). sum (map (quota a.total a.whole) r)) (next-drop a.ws.now c.loop-i.i (omega arith)),
+      c.divide-part.ensures.0,
+      l.invariant.2.is_sum,
+      quotas_le a.total a.divisor.whole a.divisor.positive (take (l.i + 1) ws) (omega (arith, sum-take-le (l.i + 1) ws)),
+      ap (λ (xs : List ℕ). sum (map (quota a.total a.divisor.whole) xs)) (take_more ws l.i 0 (omega arith)),
+      sum-quotas a.total a.divisor.whole (take l.i ws) (get_or ws l.i 0),
     )
 
--- the bit is the weight's part of the count
-counted : (c : After-one_if-positive)
-    → let a = c.args in
-    let r = remainder a.total a.whole in
-    at_least 1 (map r (drop c.loop-i.i a.ws.now)) ≡ c.one_if-positive.result + at_least 1 (map r (drop (c.loop-i.i + 1) a.ws.now))
-counted c =
+pub overflow_add-down-in-loop-i : goal.overflow_add-down-in-loop-i
+overflow_add-down-in-loop-i c =
     let a = c.args in
-    let r = remainder a.total a.whole in
-    let one : c.one_if-positive.result ≡ bit (leb 1 (r (get_or a.ws.now c.loop-i.i 0))) =
-    c.one_if-positive.ensures.0 ∙ ap (λ (x : ℕ). bit (leb 1 x)) c.mul_div-o.ensures.1 in
-    omega (arith, one, ap (λ (x : List ℕ). at_least 1 (map r x)) (next-drop a.ws.now c.loop-i.i (omega arith)))
-
-pub overflow_add-positive : goal.overflow_add-positive
-overflow_add-positive c =
-    let a = c.args in
-    let r = remainder a.total a.whole in
-    omega (arith, counted c, count_le 1 (map r a.ws.now), length-map a.ws.now r)
+    let l = c.loop-i in
+    let rs = map (remainder a.total a.divisor.whole) (take l.i a.ws.now) in
+    omega (
+      arith,
+      l.invariant.2.is_positive,
+      c.from.ensures,
+      from_bool_le (ltb 0 c.divide-part.result.remainder),
+      count_le 1 rs,
+      length-map (take l.i a.ws.now) (remainder a.total a.divisor.whole),
+      length-take-le l.i a.ws.now (omega arith),
+    )
 
 pub loop-i-preserved : goal.loop-i-preserved
 loop-i-preserved c =
     let l = c.loop-i in
-    let a = c.args in
-    let o = c.mul_div-o in
-    let hw : l.i < length a.ws.now = omega arith in
-    let q = quota a.total a.whole in
-    let r = remainder a.total a.whole in
-    let next = next-drop a.ws.now l.i hw in (
-      omega arith,
+    let ws = c.args.ws.now in
+    let o = c.divide-part in (
+      simp length-set l.invariant.0,
       simp length-set l.invariant.1,
-      simp length-set l.invariant.2,
-      omega (arith, o.ensures.0, ap (λ (x : List ℕ). sum (map q x)) next),
-      omega (arith, o.ensures.1, c.larger-top.ensures, ap (λ (x : List ℕ). largest (map r x)) next),
-      omega (arith, counted c),
-      turn-map r a.ws.now l.rests (map r a.ws.now) l.i o.result.remainder hw (omega arith) o.ensures.1 l.invariant.6,
-      turn-map q a.ws.now l.out (map q a.ws.now) l.i o.result.quotient hw (omega arith) o.ensures.0 l.invariant.7,
+      rw (take_more ws l.i 0 (omega arith), take_more_set l.rests l.i o.result.remainder (omega arith), take_more_set l.out l.i o.result.quotient (omega arith))
+          (rounded_more (get_or ws l.i 0) o.result.quotient o.result.remainder c.max.result c.from.result l.invariant.2 o.ensures.0 o.ensures.1 c.max.ensures c.from.ensures),
     )
-
-pub returns : goal.returns
-returns c =
-    let l = c.loop-i in
-    let a = c.args in
-    let h : length a.ws.now ≤ l.i = omega arith in
-    let q = quota a.total a.whole in
-    let r = remainder a.total a.whole in
-    let none = drop_of_length-le a.ws.now h in
-    record {
-      is-quotas = whole-list l.out a.ws.now (map q a.ws.now) l.i h l.invariant.2 (map q) refl l.invariant.7;
-      is-remainders = whole-list l.rests a.ws.now (map r a.ws.now) l.i h l.invariant.1 (map r) refl l.invariant.6;
-      is_sum = omega (arith, ap (λ (x : List ℕ). sum (map q x)) none);
-      is-largest = omega (arith, ap (λ (x : List ℕ). largest (map r x)) none);
-      is_positive = omega (arith, ap (λ (x : List ℕ). at_least 1 (map r x)) none);
-    }

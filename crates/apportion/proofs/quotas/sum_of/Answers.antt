@@ -1,20 +1,18 @@
--- `sum_of` meets its contract: the sum so far and the sum of what is left make the whole.
-use mathlib.Core.Path.{ap}
+-- `sum_of` meets its contract: the sum is std's.
+use mathlib.Core.Path.{◌≡◌, refl, sym, ◌∙◌}
+use Prim.Native.Nat.{◌<◌, ◌^◌}
 use native.Mathlib.Omega.{arith}
-use lib.ListN.{drop_of_length-le}
+use Rattle.std.proofs.Common.{rules}
+use Rattle.std.specs.List as std
+use Rattle.std.proofs.lemmas.List.Recursion.{is_sum_by}
 use Rattle.apportion.specs.Shares.{sum}
-use Rattle.apportion.proofs.Steps.{next-drop}
 use Rattle.apportion.proofs.quotas.sum_of.Goals as goal
 
-pub overflow_add-s : goal.overflow_add-s
-overflow_add-s c =
-    omega (arith, ap sum (next-drop c.args.ws.now c.loop-i.i (omega arith)))
-
-pub loop-i-preserved : goal.loop-i-preserved
-loop-i-preserved c =
-    omega (arith, ap sum (next-drop c.args.ws.now c.loop-i.i (omega arith)))
+pub sum-requires-clause-fits : goal.sum-requires-clause-fits
+sum-requires-clause-fits c =
+    let h : std.sum c.args.ws.now < 2 ^ 62 = omega (arith, is_sum_by sum (λ x. x) refl (λ _ _. refl) c.args.ws.now) in search rules
 
 pub returns : goal.returns
 returns c =
-    let ws = c.args.ws.now in
-    omega (arith, ap sum (drop_of_length-le ws {i = c.loop-i.i} (omega arith)))
+    let h : c.sum.result ≡ std.sum c.args.ws.now = search rules in
+    h ∙ sym (is_sum_by sum (λ x. x) refl (λ _ _. refl) c.args.ws.now)

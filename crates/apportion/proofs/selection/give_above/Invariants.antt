@@ -9,10 +9,6 @@ use Rattle.apportion.proofs.selection.give_above.Given as goal
 
 abbrev pub invariant-loop-i : goal.invariant-loop-i
 invariant-loop-i l =
-    (l.i ≤ length l.keys)
-    × (length l.out ≡ length l.keys)
+    (length l.out ≡ length l.keys)
     × ((j : ℕ) → l.i ≤ j → get_or l.out j 0 < 2 ^ 32 - 1)
     × (take l.i l.out ++ added (drop l.i l.out) (given l.theta 0 (drop l.i l.keys)) ≡ added l.initial.out (given l.theta 0 l.keys))
-
-abbrev pub decreases-loop-i : goal.decreases-loop-i
-decreases-loop-i l = length l.keys - l.i

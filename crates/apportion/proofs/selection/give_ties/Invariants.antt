@@ -9,10 +9,6 @@ use Rattle.apportion.proofs.selection.give_ties.Given as goal
 
 abbrev pub invariant-loop-i : goal.invariant-loop-i
 invariant-loop-i l =
-    (l.i ≤ length l.keys)
-    × (length l.out ≡ length l.keys)
+    (length l.out ≡ length l.keys)
     × ((j : ℕ) → l.i ≤ j → get_or l.out j 0 < 2 ^ 32 - 1)
-    × (take l.i l.out ++ added (drop l.i l.out) (ties l.theta l.left (drop l.i l.keys)) ≡ added l.initial.out (ties l.theta l.spare l.keys))
-
-abbrev pub decreases-loop-i : goal.decreases-loop-i
-decreases-loop-i l = length l.keys - l.i
+    × (take l.i l.out ++ added (drop l.i l.out) (ties l.cut.theta l.left (drop l.i l.keys)) ≡ added l.initial.out (ties l.cut.theta l.cut.spare l.keys))

@@ -1,9 +1,6 @@
--- `highest` is safe and ends.
-use Prim.Native.Nat.{◌*◌, ◌-◌, ◌≤◌, ◌<◌}
+-- `highest` is safe.
+use Prim.Native.Nat.{◌+◌, ◌*◌, ◌^◌, ◌≤◌}
 use Rattle.apportion.proofs.selection.highest.Given as goal
 
 abbrev pub invariant-loop-b : goal.invariant-loop-b
-invariant-loop-b l = (l.b < 64) × (l.above ≤ (63 - l.b) * 4294967296)
-
-abbrev pub decreases-loop-b : goal.decreases-loop-b
-decreases-loop-b l = l.b
+invariant-loop-b l = l.above + l.b * 2 ^ 32 ≤ 64 * 2 ^ 32

@@ -1,16 +1,20 @@
 -- Head by head.
-use mathlib.Core.Path.{sym, ◌∙◌}
+use mathlib.Core.Path.{◌∙◌}
+use Rattle.sheet.specs.declared.rule_set.RuleSet.TheVariants.{Archive1, Archive2}
 use Rattle.archive.specs.Reader.{head_among}
+use Rattle.archive.proofs.Heads.{starts_as}
 use Rattle.archive.proofs.head.head_of.Goals as goal
 
-pub returns-then-begins_with : goal.returns-then-begins_with
+pub returns-then-starts_with-clause-value : goal.returns-then-starts_with-clause-value
 unfolding head_among
-returns-then-begins_with c = rw (sym c.begins_with.ensures ∙ c.if-begins_with.true)
+returns-then-starts_with-clause-value c = rw (starts_as Archive1 c.args.bytes.now c.starts_with.ensures.value ∙ c.if-starts_with.true)
 
-pub returns-then-begins_with-2 : goal.returns-then-begins_with-2
+pub returns-then-starts_with-2-clause-value : goal.returns-then-starts_with-2-clause-value
 unfolding head_among
-returns-then-begins_with-2 c = rw (sym c.begins_with.ensures ∙ c.if-begins_with.false, sym c.begins_with-2.ensures ∙ c.if-begins_with-2.true)
+returns-then-starts_with-2-clause-value c =
+    rw (starts_as Archive1 c.args.bytes.now c.starts_with.ensures.value ∙ c.if-starts_with.false, starts_as Archive2 c.args.bytes.now c.starts_with-2.ensures.value ∙ c.if-starts_with-2.true)
 
-pub returns : goal.returns
+pub returns-clause-value : goal.returns-clause-value
 unfolding head_among
-returns c = rw (sym c.begins_with.ensures ∙ c.if-begins_with.false, sym c.begins_with-2.ensures ∙ c.if-begins_with-2.false)
+returns-clause-value c =
+    rw (starts_as Archive1 c.args.bytes.now c.starts_with.ensures.value ∙ c.if-starts_with.false, starts_as Archive2 c.args.bytes.now c.starts_with-2.ensures.value ∙ c.if-starts_with-2.false)

@@ -1,35 +1,67 @@
--- Invariant: the numbers from i on decide.
-use mathlib.Core.Path.{refl, sym, ◌∙◌}
-use Prim.Native.Nat.{ℕ, ◌*◌, ◌≤◌, ◌<◌}
+-- Invariant: the chunks and the numbers that are left decide.
+use lib.Pointwise.{pointwise}
+use mathlib.Core.Path.{◌≡◌, refl, sym, ap, ◌∙◌}
+use mathlib.Core.Bool.{Bool, true, false, not, ◌&&◌}
+use mathlib.Core.Logic.{inl, inr}
+use borrow.Author.Tests.{not-false}
+use mathlib.Core.List.{List, [], ◌∷◌, ◌++◌}
+use Prim.Native.Nat.{ℕ}
 use native.Mathlib.Omega.{arith}
-use lib.ListN.{length, get_or, drop_of_length-le}
-use Rattle.sheet.specs.Layout.{byte, in_bytes}
-use Rattle.archive.proofs.Bytes.{number_more, number_fault}
+use lib.Dec.{eqb}
+use lib.ListN.{length, length-append}
+use Rattle.std.specs.Iterator.Adapters.{zip_first, zip_second}
+use Rattle.std.specs.Slice.Iter.{iter_rest, chunks_exact_rest}
+use Rattle.std.specs.Int.{w32, to_le_bytes}
+use Rattle.sheet.specs.Layout.{bytes32, in_bytes}
+use Rattle.sheet.specs.Check.{same_list}
+use Rattle.sheet.proofs.Passed.{same_pointwise}
+use Rattle.archive.proofs.Bytes.{same_behind}
 use Rattle.archive.proofs.reader.same_statement.Goals as goal
 
-pub loop-i-init : goal.loop-i-init
-loop-i-init c = (omega arith, refl, refl)
+-- the next four bytes and number decide, and then what is behind them
+next : (chunk behind more : List ℕ) (number : ℕ) {rest left : List ℕ} {width : ℕ} → rest ≡ chunk ++ behind → length chunk ≡ width → width ≡ 4 → left ≡ number ∷ more
+    → same_list rest (in_bytes left) ≡ (pointwise eqb chunk (to_le_bytes w32 number) && same_list behind (in_bytes more))
+unfolding in_bytes
+next chunk behind more number cut long four first =
+    rw (cut, first) (
+    same_behind chunk (bytes32 number) behind (in_bytes more) (long ∙ four)
+    ∙ ap (λ (t : Bool). t && same_list behind (in_bytes more)) (sym (same_pointwise chunk (bytes32 number)))
+    )
 
-pub returns-then-read32-numbers : goal.returns-then-read32-numbers
-returns-then-read32-numbers c =
-    let a = c.args in
-    let l = c.loop-i in
-    let low : get_or a.numbers.now l.i 0 < 4294967296 = omega (arith, c.type_inv.numbers l.i) in
-    sym (sym l.invariant.2 ∙ number_fault a.bytes.now a.numbers.now l.i (omega arith) (omega arith) low (λ e. c.if-read32-numbers.true (c.read32.ensures ∙ e)))
+opposite : (t : Bool) → not t ≡ true → t ≡ false
+opposite true e = sym e
+opposite false e = refl
 
-pub loop-i-preserved : goal.loop-i-preserved
-loop-i-preserved c =
-    let a = c.args in
-    let l = c.loop-i in
-    let low : (j : ℕ) → byte a.bytes.now j < 256 = λ j. omega (arith, c.type_inv.bytes j) in
-    let next = sym c.read32.ensures ∙ c.if-read32-numbers.false in
-    (omega arith, l.invariant.1, number_more a.bytes.now a.numbers.now l.i (omega arith) (omega arith) low next ∙ l.invariant.2)
+length-zero : (xs : List ℕ) → length xs ≡ 0 → xs ≡ []
+length-zero [] e = refl
+length-zero (x ∷ xs) e = absurd (omega arith)
+
+pub returns-then-ne : goal.returns-then-ne
+returns-then-ne c =
+    let h = c.in-Some.ensures.steps in
+    let i = c.loop-four.invariant in
+    let e = next c.in-Some.four.now _ _ c.in-Some.number.now h.0.1.0 h.0.1.1 i.size h.1 in
+    let differs = opposite _ (sym c.ne.ensures ∙ c.if-ne.true) in
+    sym (sym i.left ∙ e ∙ rw (← c.to_le_bytes.ensures, ← c.as_slice.ensures, differs))
+
+pub loop-four-preserved : goal.loop-four-preserved
+loop-four-preserved c =
+    let h = c.in-Some.ensures.steps in
+    let i = c.loop-four.invariant in
+    let e = next c.in-Some.four.now _ _ c.in-Some.number.now h.0.1.0 h.0.1.1 i.size h.1 in
+    let same = not-false _ (sym c.ne.ensures ∙ c.if-ne.false) in
+    record {
+      size = h.0.0 ∙ i.size;
+      long = omega (arith, h.0.1.1, ap length h.0.1.0, length-append c.in-Some.four.now (chunks_exact_rest (zip_first c.next.new.self)), ap length h.1, i.size);
+      left = sym (e ∙ rw (← c.to_le_bytes.ensures, ← c.as_slice.ensures, same)) ∙ i.left;
+    }
 
 pub returns : goal.returns
 unfolding in_bytes
 returns c =
-    let a = c.args in
-    let l = c.loop-i in
-    let numbers : length a.numbers.now ≤ l.i = omega arith in
-    let bytes : length a.bytes.now ≤ 4 * l.i = omega arith in
-    sym (sym l.invariant.2 ∙ rw (drop_of_length-le a.bytes.now bytes, drop_of_length-le a.numbers.now numbers))
+    let i = c.loop-four.invariant in
+    let none : length (iter_rest (zip_second c.loop-four.four-iterator)) ≡ 0 = elim c.in-None.ensures.steps [
+      | inl h ↦ omega (arith, h.1.1.0, i.size, i.long)
+      | inr h ↦ h.1.0
+    ] in
+    sym (sym i.left ∙ rw (length-zero _ none, length-zero (chunks_exact_rest (zip_first c.loop-four.four-iterator)) (omega arith)))

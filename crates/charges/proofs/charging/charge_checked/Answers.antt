@@ -1,94 +1,108 @@
 -- 4, 9 and 13 first; the list is written only then.
-use mathlib.Core.Path.{◌≡◌, refl, sym, ap, ◌∙◌}
+use mathlib.Core.Path.{◌≡◌, sym, ap, ◌∙◌}
+use mathlib.Core.Bool.{false}
 use mathlib.Core.List.{List}
 use Prim.Native.Nat.{ℕ, ◌≤◌}
 use native.Mathlib.Omega.{arith}
-use lib.Seq.{length-take-le}
+use lib.ListN.{length}
+use Rattle.std.specs.Prelude.{IsOk, Err}
+use Rattle.std.specs.List as std
+use Rattle.std.proofs.Common.{rules}
 use Rattle.apportion.specs.Shares.{sum}
-use Rattle.sheet.specs.declared.refusal.Outcome.{Outcome}
-use Rattle.sheet.specs.declared.refusal.Outcome.TheVariants.{Accepted}
-use Rattle.sheet.specs.Check.{checked}
-use Rattle.sheet.specs.Refusals.{afterwards}
+use Rattle.sheet.specs.declared.refusal.Refusal.TheVariants.{HeaderField}
 use Rattle.sheet.specs.RuleSets.{newest}
 use Rattle.sheet.specs.Layout.{sheet_of}
+use Rattle.sheet.specs.Check.{checked}
 use Rattle.sheet.specs.Inner.Fits.{Fits}
-use Rattle.sheet.proofs.Fits.{fits}
+use Rattle.sheet.proofs.Rules.{handed_on}
+use Rattle.sheet.proofs.Views.{sheet_fits}
 use Rattle.month.specs.Inner.Accepted.{CheckedSheet}
 use Rattle.month.proofs.Accepted.{fits-checked}
-use Rattle.charges.specs.declared.amounts.Amounts.{Amounts}
-use Rattle.charges.specs.Charges.{charge_weights, columns, by_unit, fixed_charges}
+use Rattle.charges.specs.declared.models.ChargeModel.{ChargeModel}
+use Rattle.charges.specs.Charges.{charge_weights}
+use Rattle.charges.specs.Answer.{other_model}
+use Rattle.charges.specs.Inner.Models.{model_code}
 use Rattle.charges.proofs.ByUnit.{charges-by}
-use Rattle.charges.proofs.Weights.{sum-small}
-use Rattle.charges.proofs.Answers.{callable}
+use Rattle.charges.proofs.Weights.{known_model, weights-count, sum-small, sum_is}
+use Rattle.charges.proofs.Answers.{amount_over, model_unknown, zero-sum, wrong_list, right-list, within_limit}
+use Rattle.charges.proofs.charging.charge_checked.Goals.{After-gather, After-sum-whole}
 use Rattle.charges.proofs.charging.charge_checked.Goals as goal
 
-module _ (bytes : List ℕ) (e : checked 32 bytes ≡ Accepted) where
-  fitting : Fits 32 bytes
-  fitting = fits 32 bytes e
+pub returns-then-over_limit-clause-value : goal.returns-then-over_limit-clause-value
+returns-then-over_limit-clause-value c = let a = c.args in amount_over a.model a.amounts (sheet_of a.sheet.bytes.now) _ (sym c.over_limit.ensures ∙ c.if-over_limit.true)
 
-  checked-sheet : CheckedSheet (sheet_of bytes)
-  checked-sheet = fits-checked fitting
-
-  -- the weights are gathered
-  module _ (model count : ℕ) (count-is : count ≡ (sheet_of bytes).unit_count) where
-    few : count ≤ 160
-    few = omega (arith, count-is, fitting.header.unit_count)
-
-    module _ (weights : List ℕ) (are : weights ≡ charge_weights model (sheet_of bytes)) where
-      small : sum weights ≤ 16000000
-      small = omega (arith, ap sum are, sum-small model (sheet_of bytes) checked-sheet)
-
-      charges_are : (amounts : Amounts) (out : List ℕ) → out ≡ by_unit count (columns newest amounts weights) → out ≡ fixed_charges newest model amounts (sheet_of bytes)
-      charges_are amounts out w = w ∙ charges-by newest model amounts (sheet_of bytes) count weights (count-is ∙ sym fitting.units_length) are
-
-pub header_field-n-requires : goal.header_field-n-requires
-header_field-n-requires c = (omega (arith, (fitting c.args.s.now c.requires).byte_count), omega arith)
-
-pub gather-requires : goal.gather-requires
-gather-requires c = (fitting c.args.s.now c.requires, c.header_field-n.ensures, refl)
-
-pub slice_bounds-weights-end : goal.slice_bounds-weights-end
-slice_bounds-weights-end c = omega (arith, c.gather.auto, few c.args.s.now c.requires c.args.model _ c.header_field-n.ensures)
-
-pub slice_bounds-sum_of-end : goal.slice_bounds-sum_of-end
-slice_bounds-sum_of-end c = sym (length-take-le _ _ (omega (arith, c.gather.auto, few c.args.s.now c.requires c.args.model _ c.header_field-n.ensures)))
-
-pub sum_of-whole-requires : goal.sum_of-whole-requires
-sum_of-whole-requires c = omega (arith, small c.args.s.now c.requires c.args.model _ c.header_field-n.ensures _ c.gather.ensures)
-
-pub call_refusal-outcome-requires : goal.call_refusal-outcome-requires
-call_refusal-outcome-requires c = (c.requires, c.sum_of-whole.ensures ∙ ap sum c.gather.ensures)
-
-pub returns-in_default : goal.returns-in_default
-returns-in_default c =
+pub returns-in_err-model-clause-value : goal.returns-in_err-model-clause-value
+returns-in_err-model-clause-value c =
     let a = c.args in
+    let bad = c.in_err-model.ensures in
+    handed_on c.from_residual.result (Err (HeaderField 0)) _ c.from_residual.ensures.1 (ap Err (sym bad.0))
+    ∙ model_unknown a.model a.amounts (sheet_of a.sheet.bytes.now) _ (sym c.over_limit.ensures ∙ c.if-over_limit.false) bad.1
+
+-- the weights of a sheet by a model that the call's number stands for
+record Weighted (bytes : List ℕ) (model : ℕ) (weights : List ℕ) : Type 0 where
+  checked-sheet : CheckedSheet (sheet_of bytes)
+  known : other_model model ≡ false
+  are : weights ≡ charge_weights model (sheet_of bytes)
+  few : length weights ≤ 160
+  units : length weights ≡ (sheet_of bytes).unit_count
+  count : length weights ≡ length (sheet_of bytes).units
+  small : std.sum weights ≤ 16000000
+
+weighted : (bytes : List ℕ) → IsOk (checked 32 bytes) → (m : ChargeModel) {model : ℕ} {weights : List ℕ} → model_code m ≡ model → weights ≡ charge_weights (model_code m) (sheet_of bytes) → Weighted bytes model weights
+weighted bytes passed m {model} {weights} code gathered =
+    let fits : Fits 32 bytes = sheet_fits bytes passed in
+    let are = gathered ∙ ap (λ (k : ℕ). charge_weights k (sheet_of bytes)) code in
+    let count = ap length are ∙ weights-count model (sheet_of bytes) in
     record {
-      value = c.call_refusal-outcome.ensures;
-      charges_after = sym (ap (λ (q : Outcome). afterwards q a.charges.now (fixed_charges newest a.model a.amounts (sheet_of a.s.now))) c.in_default.is);
+      checked-sheet = fits-checked fits;
+      known = known_model m code;
+      are = are;
+      few = omega (arith, count, fits.units_length, fits.header.unit_count);
+      units = count ∙ fits.units_length;
+      count = count;
+      small = omega (arith, sum_is weights, ap sum are, sum-small model (sheet_of bytes) (fits-checked fits));
     }
 
--- none of them refuses
+given : (c : After-gather) → Weighted c.args.sheet.bytes.now c.args.model c.gather.new.weights
+given c = weighted c.args.sheet.bytes.now c.args.sheet.passed c.in_ok-model.model c.in_ok-model.ensures c.gather.ensures
+
+pub sum-whole-requires-clause-fits : goal.sum-whole-requires-clause-fits
+sum-whole-requires-clause-fits c =
+    let h : std.sum c.gather.new.weights ≤ 16000000 = (given (goal.at.sum-whole-requires-clause-fits c).After-gather).small in search rules
+
+whole_is : (c : After-sum-whole) → c.sum-whole.result ≡ sum (charge_weights c.args.model (sheet_of c.args.sheet.bytes.now))
+whole_is c =
+    let whole : c.sum-whole.result ≡ std.sum c.gather.new.weights = search rules in
+    whole ∙ sum_is c.gather.new.weights ∙ ap sum (weighted _ c.args.sheet.passed c.in_ok-model.model c.in_ok-model.ensures c.gather.ensures).are
+
+pub returns-then-whole-eq0-clause-value : goal.returns-then-whole-eq0-clause-value
+returns-then-whole-eq0-clause-value c =
+    let a = c.args in
+    let w = given (goal.at.returns-then-whole-eq0-clause-value c).After-gather in
+    zero-sum a.model a.amounts (sheet_of a.sheet.bytes.now) _ (sym c.over_limit.ensures ∙ c.if-over_limit.false) w.known w.checked-sheet (omega (arith, whole_is (goal.at.returns-then-whole-eq0-clause-value c).After-sum-whole))
+
+pub returns-then-charges-weights-clause-value : goal.returns-then-charges-weights-clause-value
+returns-then-charges-weights-clause-value c =
+    let a = c.args in
+    let w = given (goal.at.returns-then-charges-weights-clause-value c).After-gather in
+    wrong_list a.model a.amounts (sheet_of a.sheet.bytes.now) _ (sym c.over_limit.ensures ∙ c.if-over_limit.false) w.known w.checked-sheet
+    (λ z. omega (arith, whole_is (goal.at.returns-then-charges-weights-clause-value c).After-sum-whole))
+    (λ z. omega (arith, w.units))
+
 pub write_charges-requires : goal.write_charges-requires
 write_charges-requires c =
     let a = c.args in
-    let o = c.call_refusal-outcome in
-    let n = c.header_field-n.ensures in
-    let call = callable a.model a.amounts (sheet_of a.s.now) _ (checked-sheet a.s.now c.requires) o.result o.ensures c.in-Accepted.is in
-    let less = few a.s.now c.requires a.model _ n in (
-      record {
-        few = less;
-        many = omega (arith, c.gather.auto, less);
-        positive = omega (arith, ap sum c.gather.ensures, call.loaded);
-        small = omega (arith, small a.s.now c.requires a.model _ n _ c.gather.ensures);
-        room = omega (arith, call.right-room, n);
-      },
-      call.within,
-    )
+    let w = given (goal.at.write_charges-requires c).After-gather in
+    (record { few = w.few; positive = omega (arith, whole_is (goal.at.write_charges-requires c).After-sum-whole, ap sum w.are); small = omega (arith, w.small, sum_is c.gather.new.weights); room = omega arith }, within_limit a.amounts (sym c.over_limit.ensures ∙ c.if-over_limit.false))
 
 pub returns : goal.returns
 returns c =
     let a = c.args in
+    let w = given (goal.at.returns c).After-gather in
     record {
-      value = sym (sym c.call_refusal-outcome.ensures ∙ c.in-Accepted.is);
-      charges_after = charges_are a.s.now c.requires a.model _ c.header_field-n.ensures _ c.gather.ensures a.amounts _ c.write_charges.ensures;
+      value =
+          right-list a.model a.amounts (sheet_of a.sheet.bytes.now) _ (sym c.over_limit.ensures ∙ c.if-over_limit.false) w.known w.checked-sheet
+          (λ z. omega (arith, whole_is (goal.at.returns c).After-sum-whole))
+          (omega (arith, w.units));
+      charges_after = c.write_charges.ensures ∙ charges-by newest a.model a.amounts (sheet_of a.sheet.bytes.now) _ _ w.count w.are;
     }

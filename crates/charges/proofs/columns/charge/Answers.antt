@@ -1,15 +1,15 @@
--- The parts stand at the front of an array of 160.
-use mathlib.Core.Path.{ap, ◌∙◌}
+use mathlib.Core.Path.{◌≡◌, ap, ◌∙◌}
 use Prim.Native.Nat.{ℕ}
-use lib.ListN.{take}
+use lib.ListN.{length}
+use Rattle.std.proofs.Common.{rules}
 use Rattle.sheet.specs.RuleSets.{newest}
 use Rattle.month.specs.Steps.{shares_under}
 use Rattle.charges.specs.Inner.Columns.{column_place}
-use Rattle.charges.proofs.ByUnit.{put_front}
+use Rattle.charges.proofs.ByUnit.{put_whole}
 use Rattle.charges.proofs.columns.charge.Goals as goal
 
 pub returns : goal.returns
 returns c =
     let a = c.args in
-    let ws = take a.n a.weights.now in
-    put_front (column_place a.column) a.n _ _ _ _ (c.share.ensures ∙ ap (λ (t : ℕ). shares_under newest t ws) c.wide.ensures) c.put_column.ensures
+    let l : length c.share.new.out ≡ length a.weights.now = search rules in
+    put_whole (column_place a.column) _ (c.share.ensures ∙ ap (λ (t : ℕ). shares_under newest t a.weights.now) c.from.ensures) _ _ c.put_column.ensures l

@@ -2,7 +2,6 @@
 use mathlib.Core.List.{List}
 use Prim.Native.Nat.{ℕ}
 use native.Mathlib.Omega.{arith}
-use lib.ListN.{take}
 use Rattle.sheet.specs.RuleSets.{newest}
 use Rattle.month.specs.Steps.{shares_under}
 use Rattle.charges.specs.Charges.{columns}
@@ -16,5 +15,5 @@ returns c =
     let second = c.charge-2 in
     let third = c.charge-3 in
     let a = c.args in
-    let part : ℕ → List ℕ = λ amount. shares_under newest amount (take a.n a.weights.now) in
-    all-written a.n (part a.a.power) (part a.a.buyer) (part a.a.supplier) _ _ _ _ first.ensures second.ensures third.ensures (omega (arith, first.auto, second.auto, third.auto, c.requires.0.room))
+    let part : ℕ → List ℕ = λ amount. shares_under newest amount a.weights.now in
+    all-written _ (part a.a.power) (part a.a.buyer) (part a.a.supplier) _ _ _ _ first.ensures second.ensures third.ensures (omega (arith, first.auto, second.auto, third.auto, c.requires.0.room))

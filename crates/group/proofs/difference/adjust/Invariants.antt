@@ -1,11 +1,8 @@
--- The loop's invariant: the figures passed are moved, the others as they were.
-use Prim.Native.Nat.{◌-◌, ◌≤◌}
-use Rattle.group.specs.Inner.Figures.{moved_by, Movable}
+-- Invariant: the figures passed are adjusted, the others as they were.
+use Rattle.month.specs.Steps.{whole_wh}
+use Rattle.group.specs.Group.{adjusted}
 use Rattle.group.proofs.Replacing.{Replaced}
 use Rattle.group.proofs.difference.adjust.Given as goal
 
 abbrev pub invariant-loop-i : goal.invariant-loop-i
-invariant-loop-i l = (l.i ≤ l.n) × Movable l.n l.below l.shares l.initial.xs × Replaced (moved_by l.below) l.initial.xs l.shares l.i l.xs
-
-abbrev pub decreases-loop-i : goal.decreases-loop-i
-decreases-loop-i l = l.n - l.i
+invariant-loop-i l = Replaced (adjusted whole_wh l.difference) l.fn.figures l.shares l.i l.figures

@@ -1,56 +1,77 @@
--- The first n areas, remainders and parts are lent to `apportion`, which divides the rest; the turns come to it.
-use mathlib.Core.Path.{◌≡◌, sym, ap, subst, ◌∙◌}
-use mathlib.Core.List.{List, ◌++◌}
-use Prim.Native.Nat.{ℕ, ◌/◌, ◌%◌, ◌≤◌, ◌<◌}
+use mathlib.Core.Path.{◌≡◌, refl, sym, ap, ◌∙◌}
+use mathlib.Core.List.{List, [], ◌∷◌, zip_with}
+use Prim.Native.Nat.{ℕ, ◌*◌, ◌/◌, ◌%◌, ◌≤◌, ◌<◌}
 use native.Mathlib.Omega.{arith}
-use native.Mathlib.Nat.{div-add-mod', div-mul-le_self, mod-lt}
-use lib.ListN.{length, take, drop, replicate, length-take, length-drop, length-append}
-use lib.Seq.{length-take-le, take_at}
+use native.Mathlib.Nat.{div-add-mod', div-mul-le_self, mod-lt, mul-le-mul_left}
+use lib.ListN.{length, get_or}
+use Rattle.std.specs.List as std
+use Rattle.std.proofs.Common.{rules}
 use Rattle.apportion.specs.Shares.{sum, shares, added, remainder}
-use Rattle.apportion.proofs.Laws.{shares-fair}
 use Rattle.apportion.proofs.Turns.{turned, turns, remainder_by}
+use Rattle.month.proofs.Nearness.{item_le}
+use Rattle.group.proofs.Lists.{sum_is}
+use Rattle.group.proofs.Replacing.{none-replaced, one-replaced, all-replaced}
+use Rattle.group.proofs.difference.share_difference.Invariants.{turned_with}
+use Rattle.group.proofs.difference.share_difference.Goals.{After-iter, After-sum-whole, After-share}
 use Rattle.group.proofs.difference.share_difference.Goals as goal
+
+side_by_side : (turns : ℕ) (areas parts : List ℕ) → length areas ≡ length parts → zip_with (turned_with turns) areas parts ≡ added (turned turns areas) parts
+unfolding zip_with
+side_by_side turns [] parts e = refl
+side_by_side turns (x ∷ xs) [] e = absurd (omega arith)
+side_by_side turns (x ∷ xs) (y ∷ ys) e = ap (λ (r : List ℕ). turned_with turns x y ∷ r) (side_by_side turns xs ys (omega arith))
 
 divided : (size whole : ℕ) (ws parts out : List ℕ) → whole ≡ sum ws → 0 < sum ws → parts ≡ shares (size % whole) ws → out ≡ added (turned (size / whole) ws) parts → out ≡ shares size ws
 divided size whole ws parts out e h p q = rw (q, p, e) (sym (turns remainder remainder_by (size / sum ws) (size % sum ws) ws h) ∙ ap (λ (t : ℕ). shares t ws) (div-add-mod' size (sum ws)))
 
--- an array of twelve whose first n places were lent
-whole-array : (n : ℕ) (front : List ℕ) → n ≤ 12 → length front ≡ n → length (front ++ drop n (replicate 12 0)) ≡ 12
-whole-array n front h e = simp (length-append, length-drop) (omega arith)
+-- an area's turns are within the size
+turns-le : (size whole : ℕ) (areas : List ℕ) (x i : ℕ) → whole ≡ sum areas → size ≤ 48000000000 → x ≡ get_or areas i 0 → size / whole * x ≤ 48000000000
+turns-le size whole areas x i e h same =
+    let le : x ≤ whole = omega (arith, same, e, item_le areas i) in
+    omega (arith, mul-le-mul_left (size / whole) le, div-mul-le_self size whole)
 
-pub slice_bounds-sum_of-end-2 : goal.slice_bounds-sum_of-end-2
-slice_bounds-sum_of-end-2 c = simp length-take (omega arith)
+pub sum-whole-requires-clause-fits : goal.sum-whole-requires-clause-fits
+sum-whole-requires-clause-fits c = let h : std.sum c.args.areas.now ≤ 19200000 = omega (arith, sum_is c.args.areas.now) in search rules
 
-pub slice_bounds-apportion-end-2 : goal.slice_bounds-apportion-end-2
-slice_bounds-apportion-end-2 c = simp length-take (omega arith)
+whole_is : (c : After-sum-whole) → c.sum-whole.result ≡ sum c.args.areas.now
+whole_is c = let h : c.sum-whole.result ≡ std.sum c.args.areas.now = search rules in h ∙ sum_is c.args.areas.now
 
-pub slice_bounds-apportion-end-3 : goal.slice_bounds-apportion-end-3
-slice_bounds-apportion-end-3 c = simp length-take (omega arith)
+pub nonzero_rem-size : goal.nonzero_rem-size
+nonzero_rem-size c = omega (arith, whole_is (goal.at.nonzero_rem-size c).After-sum-whole)
 
-pub slice_bounds-apportion-end-4 : goal.slice_bounds-apportion-end-4
-slice_bounds-apportion-end-4 c = simp length-take (omega arith)
+pub share-requires-clause-divides : goal.share-requires-clause-divides
+share-requires-clause-divides c =
+    let e = whole_is (goal.at.share-requires-clause-divides c).After-sum-whole in
+    let rest = mod-lt c.args.size {m = c.sum-whole.result} (omega arith) in
+    ((omega (arith, rest), λ z. absurd (omega arith)), omega arith)
 
-pub apportion-requires : goal.apportion-requires
-apportion-requires c =
-    let e = c.sum_of-whole.ensures in
-    let rest = mod-lt c.args.size (subst (λ (w : ℕ). 0 < w) (sym e) c.requires.2) in
-    record { total_bound = (omega (arith, rest), omega arith, λ z. absurd (omega arith)); scratch_len = (simp length-take (omega arith), simp length-take (omega arith)) }
+pub nonzero_div-turns : goal.nonzero_div-turns
+nonzero_div-turns c = omega (arith, whole_is (goal.at.nonzero_div-turns c).After-sum-whole)
 
--- as many parts as buildings
-as_many : (n total : ℕ) (areas out : List ℕ) → n ≤ length areas → 0 < sum (take n areas) → out ≡ shares total (take n areas) → length out ≡ n
-as_many n total areas out h some is = ap length is ∙ (shares-fair total (take n areas) (λ z. absurd (omega arith))).as_many ∙ length-take-le n areas h
+pub loop-i-init : goal.loop-i-init
+loop-i-init c = none-replaced _ _ _
 
-pub slice_bounds-add_turns-end : goal.slice_bounds-add_turns-end
-slice_bounds-add_turns-end c = sym (whole-array _ c.apportion.new.out (omega arith) (as_many c.args.n _ c.args.areas.now c.apportion.new.out (omega arith) (omega arith) c.apportion.ensures.0))
+pub overflow_mul-area : goal.overflow_mul-area
+overflow_mul-area c =
+    let l = c.loop-i in
+    omega (arith, turns-le c.args.size c.sum-whole.result c.args.areas.now _ l.i (whole_is (goal.at.overflow_mul-area c).After-sum-whole) (omega arith) (l.invariant.rest l.i (omega arith)))
 
-pub add_turns-requires : goal.add_turns-requires
-add_turns-requires c =
-    let e = c.sum_of-whole.ensures in
-    (omega arith, whole-array c.args.n c.apportion.new.out (omega arith) (as_many c.args.n _ c.args.areas.now c.apportion.new.out (omega arith) (omega arith) c.apportion.ensures.0), omega arith, rw (← e) (omega (arith, div-mul-le_self c.args.size c.sum_of-whole.result)))
+pub overflow_add-area : goal.overflow_add-area
+overflow_add-area c =
+    let l = c.loop-i in
+    omega (arith, c.from.ensures, turns-le c.args.size c.sum-whole.result c.args.areas.now _ l.i (whole_is (goal.at.overflow_add-area c).After-sum-whole) (omega arith) (l.invariant.rest l.i (omega arith)))
+
+pub loop-i-preserved : goal.loop-i-preserved
+loop-i-preserved c =
+    let l = c.loop-i in
+    let turns = c.args.size / c.sum-whole.result in
+    one-replaced _ _ _ l.i _ l.areas (omega arith) (ap (turned_with turns (get_or l.areas l.i 0)) c.from.ensures) l.invariant
 
 pub returns : goal.returns
 returns c =
+    let l = c.loop-i in
     let a = c.args in
-    let whole = c.sum_of-whole in
-    let parts = take_at c.apportion.new.out (drop a.n (replicate 12 0)) a.n (as_many c.args.n _ c.args.areas.now c.apportion.new.out (omega arith) (omega arith) c.apportion.ensures.0) ∙ c.apportion.ensures.0 in
-    divided a.size whole.result (take a.n a.areas.now) _ _ whole.ensures (omega arith) parts c.add_turns.ensures
+    let whole = c.sum-whole.result in
+    let many : length a.areas.now ≡ length c.share.new.out = search rules in
+    divided a.size whole a.areas.now c.share.new.out l.areas (whole_is (goal.at.returns c).After-sum-whole) (omega arith) c.share.ensures
+    (all-replaced _ _ _ l.i l.areas (omega arith) (omega arith) many l.invariant ∙ side_by_side (a.size / whole) a.areas.now c.share.new.out many)

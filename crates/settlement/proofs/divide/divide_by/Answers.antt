@@ -1,31 +1,34 @@
--- Nothing divided, or the weights gathered, which fit.
-use mathlib.Core.Path.{◌≡◌, ap, subst}
-use mathlib.Core.List.{List}
-use Prim.Native.Nat.{ℕ}
+use mathlib.Core.Path.{refl, sym, ap, ◌∙◌}
 use native.Mathlib.Omega.{arith}
-use lib.ListN.{length, take}
 use lib.Seq.{length-take-le}
+use Rattle.weights.specs.Inner.Months.{sheet_of_month}
+use Rattle.weights.proofs.Ready.{month_accepted}
 use Rattle.apportion.specs.Shares.{shares}
-use Rattle.sheet.specs.Layout.{sheet_of}
-use Rattle.settlement.proofs.Dividing.{weights_fit, zeros_shared}
+use Rattle.weights.specs.Inner.By.{weights_by}
+use Rattle.settlement.proofs.Dividing.{weights_fit, zeros_shared, front_shares}
 use Rattle.settlement.proofs.divide.divide_by.Goals as goal
 
 pub returns-then-total-eq0 : goal.returns-then-total-eq0
-returns-then-total-eq0 c = zeros_shared c.requires.0 c.args.by (omega arith) c.requires.1
+returns-then-total-eq0 c = zeros_shared c.args.month.now c.args.by (omega arith) c.requires.0
 
-pub share-requires : goal.share-requires
-share-requires c =
-    let p = c.requires in
-    let few = p.0.ready.fits.header.unit_count in
-    let g = c.gather-m in record {
-      m_bound = (omega (arith, p.0.count, few), omega (arith, g.auto, p.0.count, few), omega (arith, p.0.count, few, ap length p.1));
-      divides = rw g.ensures.1 (p.2, weights_fit c.args.basis.rules (sheet_of c.args.s.now) p.0.accepted.checked-sheet c.args.by);
-    }
+pub slice_bounds-weights-end : goal.slice_bounds-weights-end
+slice_bounds-weights-end c = omega (arith, c.gather-m.ensures.few, (month_accepted c.args.month.now).checked-sheet.header.unit_count)
+
+pub slice_bounds-share-end-2 : goal.slice_bounds-share-end-2
+slice_bounds-share-end-2 c = omega (arith, c.gather-m.ensures.few, (month_accepted c.args.month.now).checked-sheet.header.unit_count)
+
+pub slice_bounds-share-end : goal.slice_bounds-share-end
+slice_bounds-share-end c =
+    let g = c.gather-m in
+    sym (length-take-le g.result g.new.out (omega (arith, g.array_long, g.ensures.few, (month_accepted c.args.month.now).checked-sheet.header.unit_count)))
+
+pub share-requires-clause-divides : goal.share-requires-clause-divides
+share-requires-clause-divides c =
+    let m = c.args.month.now in
+    rw c.gather-m.ensures.weights (c.requires.1, weights_fit m.basis.rules (sheet_of_month m) (month_accepted m).checked-sheet c.args.by)
 
 pub returns : goal.returns
 returns c =
+    let m = c.args.month.now in
     let g = c.gather-m in
-    let w = g.new.out in
-    let m = g.result in
-    let many = length-take-le m w (omega (arith, g.auto, c.requires.0.count, c.requires.0.ready.fits.header.unit_count)) in
-    subst (λ (l : List ℕ). take (length l) c.share.new.out ≡ shares c.args.total l) g.ensures.1 (rw many c.share.ensures)
+    front_shares c.args.total _ (weights_by m.basis.rules c.args.by (sheet_of_month m)) c.share.new.out _ refl c.requires.1.1 (c.share.ensures ∙ ap (shares c.args.total) g.ensures.weights)

@@ -1,40 +1,96 @@
--- The units not read, behind them the metered pool: as some unit is read, there is room for it.
-use mathlib.Core.Path.{ap}
+use mathlib.Core.Path.{◌≡◌, sym, ap, ◌∙◌}
+use mathlib.Core.List.{[], ◌∷◌, ◌++◌}
+use Prim.Native.Nat.{ℕ, ◌+◌, ◌*◌, ◌-◌}
 use native.Mathlib.Omega.{arith}
 use lib.ListN.{length, length-set}
-use Rattle.sheet.specs.Layout.{sheet_of}
+use lib.Seq.{length-take-le}
+use Rattle.weights.specs.Inner.Months.{sheet_of_month}
+use Rattle.weights.proofs.Ready.{month_accepted}
+use Rattle.apportion.specs.Shares.{shares}
+use Rattle.month.specs.Weights.{unread_weights, pool_weight}
 use Rattle.month.specs.Steps.{pool_shares}
 use Rattle.month.proofs.Accepted.{pool-positive}
 use Rattle.month.proofs.Bounds.{weight_bounds}
 use Rattle.month.proofs.DivisionBounds.{units_heat_le}
+use Rattle.weights.proofs.Ready.{within}
+use Rattle.settlement.proofs.Dividing.{front_shares}
 use Rattle.settlement.proofs.Pool.{pool-weights, pool-fits}
 use Rattle.settlement.proofs.heat.pool_shares.Goals as goal
 
+pub overflow_mul-weights : goal.overflow_mul-weights
+overflow_mul-weights c = omega (arith, (within c.args.month.now.basis).area)
+
 pub overflow_sub-weights : goal.overflow_sub-weights
-overflow_sub-weights c = let p = c.requires in pool-fits p.asked.accepts p.model p.unmetered
+overflow_sub-weights c = let p = c.requires in pool-fits c.args.month.now p.model p.unmetered
 
 pub bounds-weights-m : goal.bounds-weights-m
 bounds-weights-m c =
-    let p = c.requires in
     let g = c.gather-m in
-    (pool-weights p.asked.accepts p.model g.new.out (omega (arith, g.auto)) g.ensures).few
+    let w = pool-weights c.args.month.now c.requires.model g.new.out (omega (arith, g.array_long)) g.ensures.few g.ensures.weights in
+    w.few
 
-pub share-requires : goal.share-requires
-share-requires c =
-    let p = c.requires in
+pub offset_bounds-weights-m : goal.offset_bounds-weights-m
+offset_bounds-weights-m c =
     let g = c.gather-m in
-    let w = pool-weights p.asked.accepts p.model g.new.out (omega (arith, g.auto)) g.ensures in
-    let s = sheet_of c.args.s.now in
-    let a = p.asked.accepts.accepted in record {
-      m_bound = (omega (arith, w.few), simp length-set (omega (arith, w.few, g.auto)), omega (arith, w.few, ap length p.asked.zeros));
-      divides = rw w.weights
-          ((omega (arith, p.asked.total-is, units_heat_le c.args.basis.rules s a), λ z. absurd (omega (arith, pool-positive s a))), omega (arith, (weight_bounds s a.checked-sheet c.args.basis.rules).pool));
-    }
+    let w = pool-weights c.args.month.now c.requires.model g.new.out (omega (arith, g.array_long)) g.ensures.few g.ensures.weights in
+    omega (arith, w.few)
 
-pub returns : goal.returns
+pub overflow_add-weights : goal.overflow_add-weights
+overflow_add-weights c =
+    let g = c.gather-m in
+    let w = pool-weights c.args.month.now c.requires.model g.new.out (omega (arith, g.array_long)) g.ensures.few g.ensures.weights in
+    omega (arith, w.few)
+
+pub overflow_add-m : goal.overflow_add-m
+overflow_add-m c =
+    let g = c.gather-m in
+    let w = pool-weights c.args.month.now c.requires.model g.new.out (omega (arith, g.array_long)) g.ensures.few g.ensures.weights in
+    omega (arith, w.few)
+
+pub slice_bounds-weights-end : goal.slice_bounds-weights-end
+slice_bounds-weights-end c =
+    let g = c.gather-m in
+    let w = pool-weights c.args.month.now c.requires.model g.new.out (omega (arith, g.array_long)) g.ensures.few g.ensures.weights in
+    simp length-set (omega (arith, w.few, g.array_long))
+
+pub slice_bounds-share-end : goal.slice_bounds-share-end
+slice_bounds-share-end c =
+    let g = c.gather-m in
+    let w = pool-weights c.args.month.now c.requires.model g.new.out (omega (arith, g.array_long)) g.ensures.few g.ensures.weights in
+    let l = length-set g.new.out g.result (10000 * c.args.month.now.basis.totals.area - c.args.month.now.basis.totals.unread) in
+    sym (length-take-le (g.result + 1) _ (omega (arith, w.few, g.array_long, l)))
+
+pub slice_bounds-share-end-2 : goal.slice_bounds-share-end-2
+slice_bounds-share-end-2 c =
+    let g = c.gather-m in
+    let w = pool-weights c.args.month.now c.requires.model g.new.out (omega (arith, g.array_long)) g.ensures.few g.ensures.weights in
+    omega (arith, w.few)
+
+pub share-requires-clause-divides : goal.share-requires-clause-divides
+share-requires-clause-divides c =
+    let g = c.gather-m in
+    let w = pool-weights c.args.month.now c.requires.model g.new.out (omega (arith, g.array_long)) g.ensures.few g.ensures.weights in
+    let m = c.args.month.now in
+    let s = sheet_of_month m in
+    let a = month_accepted m in
+    rw w.weights
+    ((omega (arith, c.requires.asked.total-is, units_heat_le m.basis.rules s a), λ z. absurd (omega (arith, pool-positive s a))), omega (arith, (weight_bounds s a.checked-sheet m.basis.rules).pool))
+
+pub returns-clause-few : goal.returns-clause-few
+returns-clause-few c =
+    let g = c.gather-m in
+    let w = pool-weights c.args.month.now c.requires.model g.new.out (omega (arith, g.array_long)) g.ensures.few g.ensures.weights in
+    (w.few, w.count)
+
+pub returns-clause-shares : goal.returns-clause-shares
 unfolding pool_shares
-returns c =
-    let p = c.requires in
+returns-clause-shares c =
     let g = c.gather-m in
-    let w = pool-weights p.asked.accepts p.model g.new.out (omega (arith, g.auto)) g.ensures in
-    (w.few, w.count, cc (w.weights, p.asked.total-is))
+    let m = c.args.month.now in
+    let w = pool-weights m c.requires.model g.new.out (omega (arith, g.array_long)) g.ensures.few g.ensures.weights in
+    let s = sheet_of_month m in
+    let ws = unread_weights s ++ pool_weight s ∷ [] in
+    let l = length-set g.new.out g.result (10000 * m.basis.totals.area - m.basis.totals.unread) in
+    let many : length ws ≡ g.result + 1 = ap length (sym w.weights) ∙ length-take-le (g.result + 1) _ (omega (arith, w.few, g.array_long, l)) in
+    front_shares c.args.total (g.result + 1) ws c.share.new.out _ many (λ z. absurd (omega (arith, pool-positive s (month_accepted m)))) (c.share.ensures ∙ ap (shares c.args.total) w.weights)
+    ∙ ap (λ (t : ℕ). shares t ws) c.requires.asked.total-is

@@ -2,22 +2,12 @@
 use mathlib.Core.Path.{◌≡◌, refl}
 use Prim.Native.Nat.{ℕ, ◌+◌, ◌*◌, ◌/◌, ◌%◌}
 use native.Mathlib.Omega.{arith}
-use borrow.Author.Rules.{rules}
-use lib.ListN.{get_or, length-set}
+use lib.ListN.{get_or}
 use Rattle.settlement.proofs.Writing.{put-none, put_four}
 use Rattle.settlement.proofs.layout.energy_weights.Goals as goal
 
 pub loop-i-init : goal.loop-i-init
-loop-i-init c = (omega arith, (search rules, put-none _ _ _))
-
-pub bounds-weights-at-in-loop-i : goal.bounds-weights-at-in-loop-i
-bounds-weights-at-in-loop-i c = simp length-set (omega arith)
-
-pub bounds-weights-at-in-loop-i-2 : goal.bounds-weights-at-in-loop-i-2
-bounds-weights-at-in-loop-i-2 c = simp length-set (omega arith)
-
-pub bounds-weights-at-in-loop-i-3 : goal.bounds-weights-at-in-loop-i-3
-bounds-weights-at-in-loop-i-3 c = simp length-set (omega arith)
+loop-i-init c = put-none _ _ _
 
 pub loop-i-preserved : goal.loop-i-preserved
 loop-i-preserved c =
@@ -27,21 +17,16 @@ loop-i-preserved c =
     let energy : ℕ → ℕ = λ k. get_or a.statement.now (from k) 0 in
     let read : (k p v : ℕ) → from k ≡ p → v ≡ get_or a.statement.now p 0 → v ≡ energy k = λ k p v f e. rw f e in
     let m = 4 * l.i in
-    let p = 8 * l.i in (
-      omega arith,
-      (
-        simp length-set l.invariant.1.0,
-        put_four (λ k. k) energy (λ k m e. e) _ l.weights l.i m (λ j h. refl) (omega arith)
-            (read m p _ (omega arith) c.wide.ensures)
-            (read (m + 1) (p + 1) _ (omega arith) c.wide-in-loop-i.ensures)
-            (read (m + 2) (p + 2) _ (omega arith) c.wide-in-loop-i-2.ensures)
-            (read (m + 3) (p + 3) _ (omega arith) c.wide-in-loop-i-3.ensures)
-            l.invariant.1.1,
-      ),
-    )
+    let p = 8 * l.i in
+    put_four (λ k. k) energy (λ k m e. e) _ l.weights l.i m (λ j h. refl) (omega arith)
+    (read m p _ (omega arith) c.from.ensures)
+    (read (m + 1) (p + 1) _ (omega arith) c.from-in-loop-i.ensures)
+    (read (m + 2) (p + 2) _ (omega arith) c.from-in-loop-i-2.ensures)
+    (read (m + 3) (p + 3) _ (omega arith) c.from-in-loop-i-3.ensures)
+    l.invariant
 
 pub returns : goal.returns
 returns c =
     let l = c.loop-i in
     let e : l.i ≡ c.args.n = omega arith in
-    rw (← e) l.invariant.1.1
+    rw (← e) l.invariant

@@ -2,14 +2,13 @@
 use mathlib.Core.Path.{◌≡◌, refl}
 use Prim.Native.Nat.{◌+◌, ◌*◌}
 use native.Mathlib.Omega.{arith}
-use borrow.Author.Rules.{rules}
 use lib.ListN.{get_or}
 use Rattle.settlement.specs.Inner.Numbers.{cost_place}
 use Rattle.settlement.proofs.Writing.{put-none, put_four}
 use Rattle.settlement.proofs.layout.put_costs.Goals as goal
 
 pub loop-i-init : goal.loop-i-init
-loop-i-init c = (omega arith, (search rules, put-none _ _ _))
+loop-i-init c = put-none _ _ _
 
 pub loop-i-preserved : goal.loop-i-preserved
 loop-i-preserved c =
@@ -17,11 +16,11 @@ loop-i-preserved c =
     let l = c.loop-i in
     let g = c.put_four in
     let i = l.i in
-    let put = put_four cost_place (λ k. get_or a.cents.now k 0) (λ k m e. omega arith) _ l.statement i (8 * i + 4) (λ j h. omega arith) (omega arith) refl refl refl refl l.invariant.1.1 in
-    (omega arith, (omega (arith, g.auto, l.invariant.1.0), rw g.ensures put))
+    let put = put_four cost_place (λ k. get_or a.cents.now k 0) (λ k m e. omega arith) _ l.statement i (8 * i + 4) (λ j h. omega arith) (omega arith) refl refl refl refl l.invariant in
+    rw g.ensures put
 
 pub returns : goal.returns
 returns c =
     let l = c.loop-i in
     let e : l.i ≡ c.args.n = omega arith in
-    rw (← e) l.invariant.1.1
+    rw (← e) l.invariant

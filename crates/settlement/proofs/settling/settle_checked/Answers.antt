@@ -1,37 +1,44 @@
--- 13 after 8 to 12; the list is written only then.
-use mathlib.Core.Path.{sym, ◌∙◌}
+use mathlib.Core.Path.{◌≡◌, refl, sym, ap, ◌∙◌}
+use mathlib.Core.List.{List}
+use Prim.Native.Nat.{ℕ, ◌*◌}
+use Rattle.std.specs.Prelude.{Ok}
+use Rattle.std.proofs.Common.{Bor}
+use Rattle.sheet.specs.Layout.{Sheet, sheet_of}
+use Rattle.sheet.proofs.Rules.{handed}
+use Rattle.sheet.proofs.Views.{accepted}
+use Rattle.month.specs.Month.{bill_cents, statement_of}
+use Rattle.weights.specs.Inner.Months.{sheet_of_month}
 use Rattle.settlement.proofs.Answers.{refused-month, wrong_length, written}
-use Rattle.settlement.proofs.Charging.{accepts, own-charges, own_statement}
+use Rattle.settlement.proofs.Charging.{own-charges, own_statement}
 use Rattle.settlement.proofs.settling.settle_checked.Goals as goal
 
-pub returns-in_default : goal.returns-in_default
-returns-in_default c =
-    let o = c.month_refusal-outcome in
-    let e = refused-month c.args.rules c.args.s.now c.args.statement.now c.requires o.result o.ensures _ c.in_default.is in
-    record { value = e.0; statement_after = e.1 }
+pub returns-in_err-month : goal.returns-in_err-month
+returns-in_err-month c =
+    let a = c.args in
+    let e = handed c.from_residual.result c.in_err-month.field-0.0 c.from_residual.ensures.1 in
+    let r = refused-month a.rules a.sheet.bytes.now a.statement.now (accepted _ a.sheet.passed) c.from_residual.result (e ∙ c.in_err-month.ensures.answer) _ e in
+    record { value = r.0; statement_after = r.1 }
 
-pub returns-then-statement-m : goal.returns-then-statement-m
-returns-then-statement-m c =
-    let o = c.month_refusal-outcome in
-    let e = wrong_length c.args.rules c.args.s.now c.args.statement.now c.requires o.result o.ensures c.in-Accepted.is _ c.measure-m.ensures.count c.if-statement-m.true in
-    record { value = e.0; statement_after = e.1 }
-
-pub heat_parts-parts-requires : goal.heat_parts-parts-requires
-heat_parts-parts-requires c =
-    let m = c.measure-m.ensures in
-    (accepts m c.requires (sym c.month_refusal-outcome.ensures ∙ c.in-Accepted.is), m.water, m.metered)
+pub returns-then-statement-unit_count : goal.returns-then-statement-unit_count
+returns-then-statement-unit_count c =
+    let a = c.args in
+    let r = wrong_length a.rules a.sheet.bytes.now a.statement.now (accepted _ a.sheet.passed) (Ok tt) c.in_ok-month.ensures.answer refl _ c.unit_count.ensures.0 c.if-statement-unit_count.true in
+    record { value = r.0; statement_after = r.1 }
 
 pub write_statement-requires : goal.write_statement-requires
 write_statement-requires c =
-    let m = c.measure-m.ensures in
-    let b = c.bill_cents.ensures in
-    (own-charges (accepts m c.requires (sym c.month_refusal-outcome.ensures ∙ c.in-Accepted.is)) c.heat_parts-parts.ensures b, m.water, c.if-statement-m.false)
+    let m = c.in_ok-month.month in
+    let same : sheet_of_month m ≡ sheet_of c.args.sheet.bytes.now = ap (λ (b : Bor (List ℕ)). sheet_of b.now) c.in_ok-month.ensures.month.1 in (
+      own-charges m c.heat_parts-parts.ensures (c.bill_cents.ensures.0 ∙ ap bill_cents (sym same)),
+      c.if-statement-unit_count.false ∙ ap (λ (n : ℕ). 8 * n) (c.unit_count.ensures.0 ∙ ap (λ (s : Sheet). s.unit_count) (sym same)),
+    )
 
 pub returns : goal.returns
 returns c =
-    let o = c.month_refusal-outcome in
-    let m = c.measure-m.ensures in
+    let a = c.args in
+    let m = c.in_ok-month.month in
     let w = c.write_statement in
-    let e = written c.args.rules c.args.s.now c.args.statement.now c.requires o.result o.ensures c.in-Accepted.is _ m.count c.if-statement-m.false w.new.statement
-    (w.ensures ∙ own_statement m.by-rules c.heat_parts-parts.ensures c.bill_cents.ensures) in
-    record { value = e.0; statement_after = e.1 }
+    let same : sheet_of_month m ≡ sheet_of a.sheet.bytes.now = ap (λ (b : Bor (List ℕ)). sheet_of b.now) c.in_ok-month.ensures.month.1 in
+    let statement = w.ensures ∙ own_statement c.in_ok-month.ensures.month.0 c.heat_parts-parts.ensures (c.bill_cents.ensures.0 ∙ ap bill_cents (sym same)) ∙ ap (statement_of a.rules) same in
+    let r = written a.rules a.sheet.bytes.now a.statement.now (accepted _ a.sheet.passed) (Ok tt) c.in_ok-month.ensures.answer refl _ c.unit_count.ensures.0 c.if-statement-unit_count.false w.new.statement statement in
+    record { value = r.0; statement_after = r.1 }

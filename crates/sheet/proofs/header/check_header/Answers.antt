@@ -1,28 +1,28 @@
-use mathlib.Core.Path.{refl, sym, ap, ◌∙◌}
+use mathlib.Core.Path.{◌≡◌, refl, sym, ap, ◌∙◌}
 use Prim.Native.Nat.{ℕ}
 use native.Mathlib.Omega.{arith}
-use Rattle.sheet.specs.declared.refusal.Outcome.TheVariants.{Refused}
+use Rattle.std.specs.Prelude.{Err}
 use Rattle.sheet.specs.declared.refusal.Refusal.TheVariants.{HeaderField}
-use Rattle.sheet.proofs.Fields.{offset-high}
-use Rattle.sheet.proofs.Walk.{header-more, header_fault, header-end}
+use Rattle.sheet.specs.Layout.{sheet_of}
+use Rattle.sheet.specs.Inner.Fields.{header_field}
+use Rattle.sheet.proofs.Walk.{field_at, header-more, header_fault, header-end}
 use Rattle.sheet.proofs.header.check_header.Goals as goal
 
 pub loop-k-init : goal.loop-k-init
-loop-k-init c = (omega arith, refl)
+loop-k-init c = refl
 
-pub overflow_cast-result : goal.overflow_cast-result
-overflow_cast-result c = omega (arith, c.offset.ensures, offset-high c.loop-k.k (omega arith))
-
-pub returns-then-not-within : goal.returns-then-not-within
-returns-then-not-within c =
-    let fault = sym c.within.ensures ∙ c.if-not-within.true in
-    ap (λ (k : ℕ). Refused (HeaderField k)) c.offset.ensures
-    ∙ sym (sym c.loop-k.invariant.1 ∙ header_fault c.args.s.now _ c.loop-k.k _ c.header_ranges-ranges.ensures c.header_field.ensures (omega arith) fault)
+pub returns-then-not-contains : goal.returns-then-not-contains
+returns-then-not-contains c =
+    let fault = sym c.contains.ensures ∙ c.if-not-contains.true in
+    let e : c.header_field.result ≡ header_field (sheet_of c.args.s.now) (field_at c.loop-k.k) = c.header_field.ensures in
+    ap (λ (k : ℕ). Err (HeaderField k)) c.offset.ensures.0
+    ∙ sym (sym c.loop-k.invariant ∙ header_fault c.args.s.now _ c.loop-k.k _ c.header_ranges-ranges.ensures e (omega arith) fault)
 
 pub loop-k-preserved : goal.loop-k-preserved
 loop-k-preserved c =
-    let pass = sym c.within.ensures ∙ c.if-not-within.false in
-    (omega arith, header-more c.args.s.now _ c.loop-k.k _ c.header_ranges-ranges.ensures c.header_field.ensures (omega arith) pass ∙ c.loop-k.invariant.1)
+    let pass = sym c.contains.ensures ∙ c.if-not-contains.false in
+    let e : c.header_field.result ≡ header_field (sheet_of c.args.s.now) (field_at c.loop-k.k) = c.header_field.ensures in
+    header-more c.args.s.now _ c.loop-k.k _ c.header_ranges-ranges.ensures e (omega arith) pass ∙ c.loop-k.invariant
 
 pub returns : goal.returns
-returns c = sym (sym c.loop-k.invariant.1 ∙ header-end c.args.s.now c.loop-k.k (omega arith))
+returns c = sym (sym c.loop-k.invariant ∙ header-end c.args.s.now c.loop-k.k (omega arith))

@@ -4,10 +4,10 @@ use Rattle.sheet.specs.Check.{row_tests}
 use Rattle.sheet.specs.Inner.FieldRanges.{refusal_by}
 use Rattle.sheet.proofs.ranges.field_refusal.Goals as goal
 
-pub returns-then-within : goal.returns-then-within
+pub returns-then-contains : goal.returns-then-contains
 unfolding row_tests
-returns-then-within c = ap (λ (t : Bool). refusal_by t c.args.row) (sym (sym c.within.ensures ∙ c.if-within.true))
+returns-then-contains c = ap (λ (t : Bool). refusal_by t c.args.row) (sym (sym c.contains.ensures ∙ c.if-contains.true))
 
-pub returns-else-within : goal.returns-else-within
+pub returns-else-contains : goal.returns-else-contains
 unfolding row_tests
-returns-else-within c = ap (λ (t : Bool). refusal_by t c.args.row) (sym (sym c.within.ensures ∙ c.if-within.false))
+returns-else-contains c = ap (λ (t : Bool). refusal_by t c.args.row) (sym (sym c.contains.ensures ∙ c.if-contains.false))

@@ -5,13 +5,13 @@ pub returns : goal.returns
 unfolding header_tests
 returns c =
     rw (
-      c.by_source-other.ensures,
-      c.by_model.ensures,
-      c.by_model-2.ensures,
-      c.by_source.ensures,
-      c.by_model-3.ensures,
-      c.by_source-2.ensures,
-      c.by_source-3.ensures,
+      c.entry-other.ensures,
+      c.entry.ensures,
+      c.entry-2.ensures,
+      c.entry-3.ensures,
+      c.entry-4.ensures,
+      c.entry-5.ensures,
+      c.entry-6.ensures,
       c.header_field-model.ensures,
       c.header_field-source.ensures,
     )

@@ -7,7 +7,7 @@ returns c =
     let model = c.header_field-model.ensures in
     let source = c.header_field-source.ensures in
     record {
-      status = c.by_model.ensures ∙ ap (entry status_ranges) model;
-      class = c.by_source.ensures ∙ ap (entry water_class_ranges) source;
-      reading = c.by_model-2.ensures ∙ ap (entry reading_ranges) model;
+      status = c.entry.ensures ∙ ap (entry status_ranges) model;
+      class = c.entry-2.ensures ∙ ap (entry water_class_ranges) source;
+      reading = c.entry-3.ensures ∙ ap (entry reading_ranges) model;
     }

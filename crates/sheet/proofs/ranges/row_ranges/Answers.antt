@@ -7,8 +7,8 @@ returns c =
     let limits = c.requires.2 in
     rw (
       c.if_read.ensures,
-      c.by_class.ensures,
-      c.by_class-2.ensures,
+      c.entry.ensures,
+      c.entry-2.ensures,
       c.unit_field-status.ensures,
       c.unit_field-class.ensures,
       limits.status,

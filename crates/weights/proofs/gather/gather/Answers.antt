@@ -1,50 +1,51 @@
--- `gather` meets its contract: the weights of the units so far that take part.
-use mathlib.Core.Path.{refl, ap, ◌∙◌}
+use mathlib.Core.Path.{◌≡◌, refl, ap, ap₂, ◌∙◌}
+use mathlib.Core.Bool.{Bool, true, false}
 use native.Mathlib.Omega.{arith}
-use borrow.Author.Rules.{rules}
-use lib.ListN.{length-set}
 use lib.Seq.{take_all}
+use Rattle.apportion.specs.Shares.{bit}
 use Rattle.sheet.specs.Layout.{sheet_of}
 use Rattle.sheet.specs.Inner.Fields.{unit_of}
+use Rattle.sheet.specs.Inner.Views.{sheet_in, unit_in}
+use Rattle.weights.specs.declared.basis.Basis.{Basis}
+use mir.Val.{bool_byte}
+use Rattle.sheet.proofs.Views.{sheet_fits}
 use Rattle.weights.specs.Inner.By.{takes_part, weight_of, weights_by}
 use Rattle.weights.proofs.Rows.{bit_le, chosen, turn-row}
 use Rattle.weights.proofs.gather.gather.Goals as goal
 
 pub loop-i-init : goal.loop-i-init
-loop-i-init c = (omega arith, (omega arith, (search rules, refl)))
+loop-i-init c = (omega arith, refl)
 
-pub weight-requires : goal.weight-requires
-weight-requires c = (record { fits = c.requires.0.fits; inside = omega arith }, c.requires.0)
-
-pub bounds-out-m : goal.bounds-out-m
-bounds-out-m c = omega (arith, c.requires.0.fits.header.unit_count)
-
-pub part-m-requires : goal.part-m-requires
-part-m-requires c = record { fits = c.requires.0.fits; inside = omega arith }
-
-pub overflow_add-m : goal.overflow_add-m
-overflow_add-m c = omega (arith, c.part-m.ensures, bit_le (takes_part c.args.by (unit_of (sheet_of c.args.s.now) c.loop-i.i)))
+byte_is_bit : (t : Bool) → bool_byte t ≡ bit t
+byte_is_bit true = refl
+byte_is_bit false = refl
 
 pub loop-i-preserved : goal.loop-i-preserved
 loop-i-preserved c =
-    let a = c.args in
+    let b = c.args.basis.now in
+    let by = c.args.by in
     let l = c.loop-i in
-    let u = unit_of (sheet_of a.s.now) l.i in (
-      omega arith,
-      (
-        omega (arith, c.part-m.ensures, bit_le (takes_part a.by u)),
-        (
-          simp length-set l.invariant.1.1.0,
-          turn-row (takes_part a.by) (weight_of a.basis.rules a.by (sheet_of a.s.now)) a.s.now l.out l.i l.m c.weight.result c.part-m.result (omega arith)
-              (omega (arith, c.requires.0.fits.header.unit_count)) c.weight.ensures c.part-m.ensures l.invariant.1.1.1,
-        ),
-      ),
+    let bytes = b.sheet.bytes.now in
+    let s = sheet_of bytes in
+    let u = unit_of s l.i in
+    let unit = c.unit-unit.result in
+    let own : sheet_in unit.row ≡ s = ap sheet_of unit.same_sheet ∙ ap (λ (b : Basis). sheet_of b.sheet.bytes.now) c.unit-unit.ensures.basis in
+    let weight : c.weight.result ≡ weight_of b.rules by s u =
+    c.weight.ensures ∙ ap (λ (b : Basis). weight_of b.rules by (sheet_in unit.row) (unit_in unit.row)) c.unit-unit.ensures.basis ∙ ap₂ (weight_of b.rules by) own c.unit-unit.ensures.unit in
+    let part : c.from-m.result ≡ bit (takes_part by u) = c.from-m.ensures ∙ byte_is_bit c.part.result ∙ ap bit (c.part.ensures ∙ ap (takes_part by) c.unit-unit.ensures.unit) in (
+      omega (arith, part, bit_le (takes_part by u)),
+      turn-row (takes_part by) (weight_of b.rules by s) bytes l.out l.i l.m c.weight.result c.from-m.result (omega (arith, c.unit_count-i-end.ensures))
+          (omega (arith, c.unit_count-i-end.ensures)) weight part l.invariant.1,
     )
 
 pub returns : goal.returns
 unfolding weights_by
 returns c =
-    let s = sheet_of c.args.s.now in
+    let b = c.args.basis.now in
+    let s = sheet_of b.sheet.bytes.now in
     let by = c.args.by in
     let l = c.loop-i in
-    (omega arith, l.invariant.1.1.1 ∙ ap (chosen (takes_part by) (weight_of c.args.basis.rules by s)) (take_all l.i s.units (omega (arith, c.requires.0.fits.units_length))))
+    record {
+      few = omega (arith, c.unit_count-i-end.ensures);
+      weights = l.invariant.1 ∙ ap (chosen (takes_part by) (weight_of b.rules by s)) (take_all l.i s.units (omega (arith, c.unit_count-i-end.ensures, (sheet_fits b.sheet.bytes.now b.sheet.passed).units_length)));
+    }

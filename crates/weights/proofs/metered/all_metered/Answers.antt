@@ -1,19 +1,30 @@
--- Every unit is read if as many are read as there are (all_read).
-use mathlib.Core.Path.{sym, ap₂, ◌∙◌}
-use borrow.Author.Tests.{eq-eqb, ne_eqb}
+use mathlib.Core.Path.{◌≡◌, refl, sym, ap, ap₂, ◌∙◌}
+use mathlib.Core.Bool.{false}
 use lib.Dec.{eqb}
+use Rattle.sheet.specs.declared.codes.Model.{Model}
+use Rattle.sheet.specs.declared.codes.Model.TheVariants.{ByLoad, ByArea, ByAllocatorsAndArea, ByAllocatorsAndRisers, ByMeters}
+use Rattle.sheet.specs.Codes.{model_code}
 use Rattle.sheet.specs.Layout.{sheet_of}
+use Rattle.sheet.proofs.Views.{sheet_fits}
 use Rattle.month.specs.Weights.{all_metered}
+use Rattle.weights.specs.declared.totals.Totals.{Totals}
 use Rattle.weights.proofs.Tests.{all_read}
 use Rattle.weights.proofs.metered.all_metered.Goals as goal
 
-pub returns-then-head-eq5 : goal.returns-then-head-eq5
-unfolding all_metered
-returns-then-head-eq5 c =
-    let r = c.requires.0 in
-    rw (← c.head.ensures, eq-eqb _ 5 c.if-head-eq5.true)
-    (ap₂ eqb r.totals.read (c.requires.1 ∙ sym r.fits.units_length) ∙ all_read (sheet_of c.args.s.now).units)
+other : (m : Model) → (m ≡ ByMeters → ⊥) → false ≡ eqb (model_code m) 5
+other ByLoad h = refl
+other ByArea h = refl
+other ByAllocatorsAndArea h = refl
+other ByAllocatorsAndRisers h = refl
+other ByMeters h = absurd (h refl)
 
-pub returns-else-head-eq5 : goal.returns-else-head-eq5
+pub returns-in-ByMeters : goal.returns-in-ByMeters
 unfolding all_metered
-returns-else-head-eq5 c = rw (← c.head.ensures, ne_eqb _ 5 c.if-head-eq5.false)
+returns-in-ByMeters c =
+    let b = c.args.basis.now in
+    let f = sheet_fits b.sheet.bytes.now b.sheet.passed in
+    rw (← c.in-ByMeters.ensures) (ap₂ eqb (ap (λ (t : Totals). t.read) b.summed) (c.unit_count.ensures.0 ∙ sym f.units_length) ∙ all_read (sheet_of b.sheet.bytes.now).units)
+
+pub returns-in_default : goal.returns-in_default
+unfolding all_metered
+returns-in_default c = rw (← c.model.ensures, ← other c.model.result c.in_default.not-ByMeters)

@@ -1,17 +1,26 @@
--- C never goes over, and the limit is EG.
-use mathlib.Core.Path.{ap₂, ◌∙◌}
+use mathlib.Core.Path.{◌≡◌, sym, ap₂, ◌∙◌}
 use Prim.Native.Nat.{◌-◌}
+use lib.Dec.{ltb}
 use Rattle.sheet.specs.Layout.{sheet_of}
-use Rattle.sheet.specs.Inner.Sums.{past_sum}
 use Rattle.month.specs.Steps.{space_heat}
-use Rattle.month.specs.Month.{hot_water_wh, space_heat_wh}
-use Rattle.month.proofs.Accepted.{fits-checked}
+use Rattle.month.specs.Month.{space_heat_wh, hot_water_wh}
 use Rattle.month.proofs.Bounds.{sum_bounds}
-use Rattle.weights.proofs.Tests.{past-metered}
+use Rattle.weights.specs.Inner.Metered.{metered_heat}
+use Rattle.weights.proofs.Ready.{passes}
+use Rattle.weights.proofs.Tests.{amount_is, some_amount, past-metered, metered_fits}
 use Rattle.weights.proofs.refusals.meters_exceed.Goals as goal
 
-pub returns : goal.returns
+pub returns-in-Some : goal.returns-in-Some
 unfolding space_heat_wh space_heat hot_water_wh
-returns c =
-    let s = sheet_of c.args.s.now in
-    c.past.ensures ∙ ap₂ past_sum c.requires.3 (ap₂ ◌-◌ c.head.ensures c.requires.1) ∙ past-metered s (space_heat_wh s) (sum_bounds s (fits-checked c.requires.0)).metered
+returns-in-Some c =
+    let b = c.args.basis.now in
+    let s = sheet_of b.sheet.bytes.now in
+    let fits = metered_fits s (sum_bounds s (passes b)).metered in
+    let metered : c.number.result ≡ metered_heat s = c.number.ensures ∙ amount_is (metered_heat s) c.in-Some.metered fits (sym c.requires.2 ∙ c.in-Some.is) in
+    ap₂ ltb (ap₂ ◌-◌ (c.from.ensures ∙ c.header.ensures) c.requires.0) metered ∙ past-metered s (space_heat_wh s)
+
+pub returns-in-None : goal.returns-in-None
+returns-in-None c =
+    let b = c.args.basis.now in
+    let s = sheet_of b.sheet.bytes.now in
+    absurd (some_amount (metered_heat s) (metered_fits s (sum_bounds s (passes b)).metered) (sym c.requires.2 ∙ c.in-None.is))

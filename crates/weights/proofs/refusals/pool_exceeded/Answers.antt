@@ -1,24 +1,19 @@
--- The tests are those of the definition.
-use mathlib.Core.Path.{sym, ap₂, ◌∙◌}
-use Prim.Native.Nat.{ℕ, ◌*◌}
+use mathlib.Core.Path.{ap}
+use mathlib.Core.Bool.{◌&&◌}
+use Prim.Native.Nat.{◌*◌}
 use native.Mathlib.Omega.{arith}
-use borrow.Author.Tests.{le-leb, lt-leb}
 use lib.Dec.{ltb}
 use Rattle.sheet.specs.Layout.{sheet_of}
 use Rattle.month.specs.Weights.{has_pool}
+use Rattle.weights.specs.declared.totals.Totals.{Totals}
+use Rattle.weights.proofs.Ready.{within}
 use Rattle.weights.proofs.refusals.pool_exceeded.Goals as goal
 
-pub returns-then-head-lt3 : goal.returns-then-head-lt3
-unfolding has_pool
-returns-then-head-lt3 c = rw (lt-leb 3 (sheet_of c.args.s.now).model (omega (arith, c.head.ensures)))
-
-pub returns-then-all_metered : goal.returns-then-all_metered
-unfolding has_pool
-returns-then-all_metered c = rw (le-leb 3 (sheet_of c.args.s.now).model (omega (arith, c.head.ensures)), sym c.all_metered.ensures ∙ c.if-all_metered.true)
+pub overflow_mul-result : goal.overflow_mul-result
+overflow_mul-result c = omega (arith, (within c.args.basis.now).area)
 
 pub returns : goal.returns
 unfolding has_pool
 returns c =
-    let of = c.requires.0.totals in
-    rw (le-leb 3 (sheet_of c.args.s.now).model (omega (arith, c.head.ensures)), sym c.all_metered.ensures ∙ c.if-all_metered.false)
-    (ap₂ (λ (p u : ℕ). ltb (10000 * p) u) of.area of.unread)
+    let b = c.args.basis.now in
+    rw (c.has_readings.ensures, c.model.ensures, c.all_metered.ensures) (ap (λ (t : Totals). has_pool (sheet_of b.sheet.bytes.now) && ltb (10000 * t.area) t.unread) b.summed)

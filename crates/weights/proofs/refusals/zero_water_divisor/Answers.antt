@@ -1,24 +1,26 @@
--- Test by test, over the sums (water-divisor).
-use mathlib.Core.Path.{sym, ◌∙◌}
-use mathlib.Core.Bool.{or-false}
-use borrow.Author.Tests.{eq-eqb, ne_eqb}
+use mathlib.Core.Path.{◌≡◌, refl}
+use mathlib.Core.Bool.{Bool, true, false, ◌||◌}
+use mathlib.Core.List.{[], ◌∷◌}
+use native.Mathlib.Omega.{arith}
 use Rattle.sheet.specs.Tests.{any}
+use Rattle.sheet.specs.Layout.{sheet_of}
+use Rattle.weights.proofs.Ready.{within}
 use Rattle.weights.proofs.Tests.{water-divisor}
 use Rattle.weights.proofs.refusals.zero_water_divisor.Goals as goal
 
-pub returns-then-t-eq0 : goal.returns-then-t-eq0
+chain : (a b c d : Bool) → (a || b || c || d) ≡ any (a ∷ b ∷ c ∷ d ∷ [])
 unfolding any
-returns-then-t-eq0 c = rw (← water-divisor c.requires.totals, eq-eqb _ 0 c.if-t-eq0.true)
+chain true b c d = refl
+chain false true c d = refl
+chain false false true d = refl
+chain false false false true = refl
+chain false false false false = refl
 
-pub returns-then-lacks : goal.returns-then-lacks
-unfolding any
-returns-then-lacks c = rw (← water-divisor c.requires.totals, ne_eqb _ 0 c.if-t-eq0.false, sym c.lacks.ensures ∙ c.if-lacks.true)
-
-pub returns-then-lacks-2 : goal.returns-then-lacks-2
-unfolding any
-returns-then-lacks-2 c = rw (← water-divisor c.requires.totals, ne_eqb _ 0 c.if-t-eq0.false, sym c.lacks.ensures ∙ c.if-lacks.false, sym c.lacks-2.ensures ∙ c.if-lacks-2.true)
+pub overflow_add-result : goal.overflow_add-result
+overflow_add-result c = omega (arith, (within c.args.basis.now).class1, (within c.args.basis.now).class2)
 
 pub returns : goal.returns
-unfolding any
-returns c = rw (← water-divisor c.requires.totals, ne_eqb _ 0 c.if-t-eq0.false, sym c.lacks.ensures ∙ c.if-lacks.false, sym c.lacks-2.ensures ∙ c.if-lacks-2.false, ← c.head.ensures)
-    (c.lacks-3.ensures ∙ sym (or-false _))
+returns c =
+    let b = c.args.basis.now in
+    rw chain
+    (rw (c.lacks.ensures, c.lacks-2.ensures, c.lacks-3.ensures, c.from-common.ensures, c.header.ensures) (water-divisor (sheet_of b.sheet.bytes.now) b.totals b.summed))

@@ -1,9 +1,9 @@
 use mathlib.Core.Path.{sym}
 use native.Mathlib.Omega.{arith}
-use Rattle.year_sums.proofs.Updating.{bad-none}
+use Rattle.year_sums.proofs.Updating.{not-past, past_nowhere}
 use Rattle.year_sums.proofs.list.cannot_update.Goals as goal
 
-pub returns-then-far_from_ends : goal.returns-then-far_from_ends
-returns-then-far_from_ends c =
-    sym (bad-none c.requires (λ k. omega (arith, c.type_inv.sums k)) (λ k. omega (arith, c.type_inv.new k))
-    (c.far_from_ends.ensures c.if-far_from_ends.true))
+pub returns-else-not-far_from_ends : goal.returns-else-not-far_from_ends
+returns-else-not-far_from_ends c =
+    let far = c.far_from_ends.ensures c.if-not-far_from_ends.false in
+    rw c.if-not-far_from_ends.false (sym (past_nowhere c.requires (λ k h. let one = far k h in not-past _ _ _ one.above (omega (arith, one.room, c.type_inv.new k)))))

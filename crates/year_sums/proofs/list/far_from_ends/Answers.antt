@@ -1,31 +1,23 @@
-use mathlib.Core.Path.{◌≡◌, subst}
+use mathlib.Core.Path.{◌≡◌}
 use native.Mathlib.Omega.{arith}
-use native.Mathlib.Decide.{dec_lt}
-use Prim.Native.Nat.{ℕ, ◌-◌, ◌<◌, ◌≤◌}
+use Prim.Native.Nat.{ℕ}
 use borrow.Author.Tests.{ltb-true}
 use lib.ListN.{get_or}
-use Rattle.year_sums.proofs.Updating.{in_lower_half}
+use lib.Bits.{bit_or}
+use Rattle.std.specs.List.{zip}
+use Rattle.std.proofs.Common.{rules}
+use Rattle.std.proofs.lemmas.Slice.Zip.{length-zip, get_or-zip}
+use Rattle.std.proofs.lemmas.Iterator.{YieldsList-from_slice, YieldsList-from_zip}
+use Rattle.std.proofs.lemmas.Iterator.Consumers.{fold_from_yields_List}
+use Rattle.year_sums.proofs.Updating.{difference, far-one, bits_gathered}
 use Rattle.year_sums.proofs.list.far_from_ends.Goals as goal
 
-pub loop-k-init : goal.loop-k-init
-loop-k-init c = let pre = c.requires in (omega arith, pre.0, pre.1, pre.2, λ e j h. absurd (omega arith))
-
-pub loop-k-preserved : goal.loop-k-preserved
-loop-k-preserved c =
-    let inv = c.loop-k.invariant in let k = c.loop-k.k in let s = get_or c.args.sums.now k 0 in
-    let above = c.or64-bits.ensures in let d = c.difference in (
-      omega arith,
-      inv.1,
-      inv.2,
-      inv.3,
-      λ e j h. elim (dec_lt j k) [
-        | yes l ↦ inv.4 (omega (arith, above.0)) j l
-        | no l ↦
-            let same : j ≡ k = omega arith in
-            let f = subst (λ (x : ℕ). (x ≤ s) × (s - x < 9223372036854775808)) c.or_nothing.ensures.0 (in_lower_half s _ d.result d.ensures.0 d.ensures.1 (omega (arith, above.1))) in
-            rw same (record { above = f.0; room = f.1 })
-      ],
-    )
-
 pub returns : goal.returns
-returns c = λ e k h. c.loop-k.invariant.4 (ltb-true c.loop-k.bits 9223372036854775808 e) k (omega arith)
+returns c = λ e k h.
+    let sums = c.args.sums.now in let old = c.args.old.now in
+    let all = fold_from_yields_List _ (λ (b : ℕ) (p : ℕ × ℕ). bit_or b (difference p)) 0 c.fold-bits.result c.fold-bits.ensures.ran
+    (YieldsList-from_zip (YieldsList-from_slice sums cc) (YieldsList-from_slice old cc)) (λ a x b q k. search rules) in
+    let at : get_or (zip sums old) k (0, 0) ≡ (get_or sums k 0, get_or old k 0) = get_or-zip sums old k (0, 0) h (omega arith) in
+    let one = bits_gathered difference 0 (zip sums old) k (0, 0) (omega (arith, length-zip sums old)) in
+    far-one (get_or sums k 0) (get_or old k 0) (omega (arith, c.type_inv.sums k)) (omega (arith, c.type_inv.old k))
+    (omega (arith, rw at at one, all, ltb-true c.fold-bits.result 9223372036854775808 e))

@@ -1,26 +1,26 @@
-use mathlib.Core.Path.{sym, ◌∙◌}
 use native.Mathlib.Omega.{arith}
-use Rattle.yearbook.proofs.Sound.{book-sound}
 use Rattle.yearbook.proofs.Answers.{tells_15, tells_18, tells_19, tells_totals}
+use Rattle.sheet.proofs.Rules.{handed}
+use Rattle.yearbook.proofs.Handed.{same}
 use Rattle.yearbook.proofs.totals.year.Goals as goal
 
-pub returns-then-bad_book : goal.returns-then-bad_book
-returns-then-bad_book c = rw c.refused.ensures (tells_15 _ _ (sym c.bad_book.ensures ∙ c.if-bad_book.true))
+pub returns-in_err-book : goal.returns-in_err-book
+returns-in_err-book c =
+    let no = c.in_err-book.ensures in
+    rw (handed _ _ c.from_residual.ensures.1, no.1) (tells_15 _ _ no.0)
 
-pub bounds-book-0 : goal.bounds-book-0
-bounds-book-0 c = omega (arith, (book-sound _ (sym c.bad_book.ensures ∙ c.if-bad_book.false)).size)
-
-pub returns-then-place-book : goal.returns-then-place-book
-returns-then-place-book c = rw c.refused-then-place-book.ensures (tells_18 _ _ (sym c.bad_book.ensures ∙ c.if-bad_book.false) c.if-place-book.true)
+pub returns-then-place-unit_count : goal.returns-then-place-unit_count
+returns-then-place-unit_count c =
+    let book = same c.in_ok-book.ensures.1 in
+    rw book (tells_18 _ _ (rw book at c.in_ok-book.ensures.0) (omega (arith, c.unit_count.ensures)))
 
 pub returns-then-sums-ne-BLOCK_LENGTH : goal.returns-then-sums-ne-BLOCK_LENGTH
-returns-then-sums-ne-BLOCK_LENGTH c = rw c.refused-then-sums-ne-BLOCK_LENGTH.ensures (tells_19 _ _ (sym c.bad_book.ensures ∙ c.if-bad_book.false) c.if-place-book.false c.if-sums-ne-BLOCK_LENGTH.true)
-
-pub marks_in-requires : goal.marks_in-requires
-marks_in-requires c = (book-sound _ (sym c.bad_book.ensures ∙ c.if-bad_book.false)).size
-
-pub unit_sums-requires : goal.unit_sums-requires
-unit_sums-requires c = (c.if-sums-ne-BLOCK_LENGTH.false, omega (arith, (book-sound _ (sym c.bad_book.ensures ∙ c.if-bad_book.false)).few-units))
+returns-then-sums-ne-BLOCK_LENGTH c =
+    let book = same c.in_ok-book.ensures.1 in
+    rw book (tells_19 _ _ (rw book at c.in_ok-book.ensures.0) (omega (arith, c.unit_count.ensures)) c.if-sums-ne-BLOCK_LENGTH.true)
 
 pub returns : goal.returns
-returns c = rw (c.marks_in.ensures, c.unit_sums.ensures) (tells_totals _ _ (sym c.bad_book.ensures ∙ c.if-bad_book.false) c.if-place-book.false c.if-sums-ne-BLOCK_LENGTH.false)
+returns c =
+    let book = same c.in_ok-book.ensures.1 in
+    rw (c.standing_months.ensures, c.unit_sums.ensures, book)
+    (tells_totals _ _ (rw book at c.in_ok-book.ensures.0) (omega (arith, c.unit_count.ensures)) c.if-sums-ne-BLOCK_LENGTH.false)

@@ -1,49 +1,53 @@
 use mathlib.Core.Path.{refl, sym, ◌∙◌}
 use native.Mathlib.Omega.{arith}
-use borrow.Author.Tests.{eq-eqb, ne_eqb}
-use Rattle.yearbook.specs.LentBook.{block_length, clear_month}
-use Rattle.yearbook.proofs.Sound.{book-sound}
+use native.Mathlib.Decide.{dec_lt}
+use borrow.Author.Tests.{tests}
+use Rattle.std.proofs.Common.{rules}
+use Rattle.std.proofs.lemmas.Grind.{common_steps}
 use Rattle.year_sums.proofs.Lists.{zero-at}
-use Rattle.year_sums.proofs.Updating.{update-false, update-true}
+use Rattle.year_sums.proofs.Updating.{update-err, update-ok}
+use Rattle.yearbook.specs.LentBook.{block_length, clear_month}
 use Rattle.yearbook.proofs.Answers.{withdraw_15, withdraw-low, withdraw-high, withdraw_17, withdraw_19, withdraw-accepted}
+use Rattle.yearbook.proofs.Blocks.{stored-length}
+use Rattle.sheet.proofs.Rules.{handed}
+use Rattle.yearbook.proofs.Handed.{same}
 use Rattle.yearbook.proofs.withdrawal.withdraw.Goals as goal
 
-pub returns-then-bad_book : goal.returns-then-bad_book
-returns-then-bad_book c = withdraw_15 _ _ (sym c.bad_book.ensures ∙ c.if-bad_book.true)
+pub returns-in_err-before : goal.returns-in_err-before
+returns-in_err-before c =
+    let no = c.in_err-before.ensures in
+    rw (handed _ _ c.from_residual.ensures.1, no.1) (withdraw_15 _ _ no.0)
 
-pub returns-then-month-lt1 : goal.returns-then-month-lt1
-returns-then-month-lt1 c = withdraw-low _ _ (sym c.bad_book.ensures ∙ c.if-bad_book.false) c.if-month-lt1.true
+pub returns-then-not-contains : goal.returns-then-not-contains
+returns-then-not-contains c = elim (dec_lt c.args.month 1) [
+  | yes h ↦ withdraw-low _ _ c.in_ok-before.ensures.0 h
+  | no h ↦ withdraw-high _ _ c.in_ok-before.ensures.0 (omega arith) (grind (arith, common_steps))
+]
 
-pub returns-then-month-gt-MONTHS : goal.returns-then-month-gt-MONTHS
-returns-then-month-gt-MONTHS c = withdraw-high _ _ (sym c.bad_book.ensures ∙ c.if-bad_book.false) (omega arith) c.if-month-gt-MONTHS.true
+pub returns-then-not-stands : goal.returns-then-not-stands
+returns-then-not-stands c =
+    let book = same c.in_ok-before.ensures.1 in
+    rw book (withdraw_17 _ _ (rw book at c.in_ok-before.ensures.0) (search (rules, tests)) (search (rules, tests)) (sym c.stands.ensures ∙ c.if-not-stands.true))
 
-pub bounds-book-i : goal.bounds-book-i
-bounds-book-i c = omega (arith, (book-sound _ (sym c.bad_book.ensures ∙ c.if-bad_book.false)).size)
+pub update-requires : goal.update-requires
+update-requires c = record {
+  old-full = rw c.block.ensures (stored-length _ c.in_ok-before.before.sound.size _ (search (rules, tests)));
+  few = c.unit_count-n.ensures.1;
+  full = refl;
+  rest = λ k l. zero-at block_length k;
+}
 
-pub returns-then-book-i-ne1 : goal.returns-then-book-i-ne1
-returns-then-book-i-ne1 c = withdraw_17 _ _ (sym c.bad_book.ensures ∙ c.if-bad_book.false) (omega arith) (omega arith) (ne_eqb _ 1 c.if-book-i-ne1.true)
-
-pub bounds-book-0 : goal.bounds-book-0
-bounds-book-0 c = omega (arith, (book-sound _ (sym c.bad_book.ensures ∙ c.if-bad_book.false)).size)
-
-pub overflow_cast-n : goal.overflow_cast-n
-overflow_cast-n c = record { fits = omega (arith, (book-sound _ (sym c.bad_book.ensures ∙ c.if-bad_book.false)).few-units) }
-
-pub update_sums-requires : goal.update_sums-requires
-update_sums-requires c =
-    let s = book-sound _ (sym c.bad_book.ensures ∙ c.if-bad_book.false) in
-    record { size = s.size; low = omega arith; few = s.few-units; full = refl; rest = λ k l. zero-at block_length k }
-
-pub returns-then-not-update_sums : goal.returns-then-not-update_sums
-returns-then-not-update_sums c =
-    let f = update-false c.update_sums.ensures c.if-not-update_sums.true in
-    rw f.1 (withdraw_19 _ _ (sym c.bad_book.ensures ∙ c.if-bad_book.false) (omega arith) (omega arith) (eq-eqb _ 1 c.if-book-i-ne1.false) f.0)
-
-pub put_month-requires : goal.put_month-requires
-put_month-requires c = ((book-sound _ (sym c.bad_book.ensures ∙ c.if-bad_book.false)).size, omega arith, refl)
+pub returns-in_err-update : goal.returns-in_err-update
+returns-in_err-update c =
+    let book = same c.in_ok-before.ensures.1 in
+    let u = update-err (rw c.block.ensures at c.in_err-update.ensures) in
+    rw (handed _ _ c.from_residual-in_err-update.ensures.1, u.1, u.2, book)
+    (withdraw_19 _ _ (rw book at c.in_ok-before.ensures.0) (search (rules, tests)) (search (rules, tests)) (sym c.stands.ensures ∙ c.if-not-stands.false) u.0)
 
 pub returns : goal.returns
 unfolding clear_month
 returns c =
-    let t = update-true c.update_sums.ensures c.if-not-update_sums.false in
-    rw (c.put_month.ensures, t.1) (withdraw-accepted _ _ (sym c.bad_book.ensures ∙ c.if-bad_book.false) (omega arith) (omega arith) (eq-eqb _ 1 c.if-book-i-ne1.false) t.0)
+    let book = same c.in_ok-before.ensures.1 in
+    let u = update-ok (rw c.block.ensures at c.in_ok-update.ensures) in
+    rw (c.put_month.ensures, u.1, book)
+    (withdraw-accepted _ _ (rw book at c.in_ok-before.ensures.0) (search (rules, tests)) (search (rules, tests)) (sym c.stands.ensures ∙ c.if-not-stands.false) u.0)

@@ -1,0 +1,38 @@
+-- The bill of the shared reading at the first building's price, divided over the adjusted readings.
+use mathlib.Core.Path.{◌≡◌, sym, ap, ◌∙◌}
+use mathlib.Core.List.{List}
+use Prim.Native.Nat.{◌≤◌}
+use native.Mathlib.Omega.{arith}
+use lib.ListN.{length}
+use lib.Seq.{length-take-le}
+use Rattle.sheet.specs.Layout.{Sheet, sheet_of}
+use Rattle.group.specs.Group.{shared_bill}
+use Rattle.group.specs.Inner.Parts.{group_in}
+use Rattle.group.proofs.Parts.{sheet-at, placed}
+use Rattle.group.proofs.Charges.{readings_many, bill-is, bill-divides, readings_fit, charges, group-written}
+use Rattle.group.proofs.buildings.PassedGroup.write.Goals.{After-cents_for}
+use Rattle.group.proofs.buildings.PassedGroup.write.Goals as goal
+
+bill : (c : After-cents_for) → c.cents_for.result ≡ shared_bill (group_in c.args.self.group)
+bill c =
+    let g = c.args.self.group in
+    let first = sheet-at g.sheets.now g.buildings.now 0 (placed _ _ _ g.good).some in
+    bill-is c.requires c.cents_for.ensures.0 (c.from-price.ensures ∙ c.header.ensures ∙ ap (λ (bytes : List _). (sheet_of bytes).price) c.sheet.ensures ∙ ap (λ (s : Sheet). s.price) (sym first))
+
+pub slice_bounds-bills-end : goal.slice_bounds-bills-end
+slice_bounds-bills-end c = omega (arith, readings_many c.requires)
+
+pub slice_bounds-bills-end-2 : goal.slice_bounds-bills-end-2
+slice_bounds-bills-end-2 c = sym (length-take-le _ _ (omega (arith, readings_many c.requires)))
+
+pub share-requires-clause-few : goal.share-requires-clause-few
+share-requires-clause-few c = let few : length c.args.readings.now ≤ 12 = omega (arith, readings_many c.requires) in (omega arith, length-take-le _ _ few)
+
+pub share-requires-clause-divides : goal.share-requires-clause-divides
+share-requires-clause-divides c = let is = bill (goal.at.share-requires-clause-divides c).After-cents_for in (bill-divides c.requires is, readings_fit c.requires is)
+
+pub write_all-requires : goal.write_all-requires
+write_all-requires c = charges c.requires (bill (goal.at.write_all-requires c).After-cents_for) c.share.ensures
+
+pub returns : goal.returns
+returns c = c.write_all.ensures ∙ group-written c.requires (bill (goal.at.returns c).After-cents_for) c.share.ensures

@@ -1,0 +1,32 @@
+-- What holds of a sheet that passes, as its view keeps it, and of a row's view. Assumes nothing.
+use mathlib.Core.Path.{◌≡◌, refl}
+use mathlib.Core.List.{List}
+use Prim.Native.Nat.{ℕ, ◌≤◌, ◌<◌}
+use native.Mathlib.Omega.{arith}
+use lib.ListN.{length}
+use Rattle.std.specs.Prelude.{Result, Ok, Err, IsOk, MatchResult}
+use Rattle.sheet.specs.Refusals.{Outcome}
+use Rattle.sheet.specs.Layout.{sheet_of}
+use Rattle.sheet.specs.Check.{checked}
+use Rattle.sheet.specs.Inner.Fields.{unit_of}
+use Rattle.sheet.specs.Inner.Fits.{Fits, UnitFits}
+use Rattle.sheet.proofs.Fits.{fits, each_at}
+
+-- a code that stands for a kind
+pub known : {A E : Type 0} (P : A → Type 0) (Q : E → Type 0) (r : Result A E) → MatchResult r P Q → ((e : E) → Q e → ⊥) → IsOk r
+known P Q (Ok x) h none = refl
+known P Q (Err e) h none = absurd (none e h)
+
+pub accepted : (o : Outcome) → IsOk o → o ≡ Ok tt
+accepted (Ok u) h = refl
+accepted (Err r) h = absurd (let z : ◌≡◌ {A = ℕ} 0 1 = cc in omega arith)
+
+module _ (bytes : List ℕ) (passed : IsOk (checked 32 bytes)) where
+  pub sheet_fits : Fits 32 bytes
+  sheet_fits = fits 32 bytes (accepted _ passed)
+
+  pub has_header : 48 ≤ length bytes
+  has_header = omega (arith, sheet_fits.byte_count)
+
+  pub unit_fits : (i : ℕ) → i < (sheet_of bytes).unit_count → UnitFits (sheet_of bytes) (unit_of (sheet_of bytes) i)
+  unit_fits i h = each_at (UnitFits (sheet_of bytes)) (sheet_of bytes).units i _ sheet_fits.units (omega (arith, sheet_fits.units_length))
