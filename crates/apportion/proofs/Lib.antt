@@ -8,5 +8,5 @@ pub mod Laws
 pub mod Turns
 pub mod Halves
 pub mod Wide
-pub mod Steps
+pub mod Sums
 pub mod Plan

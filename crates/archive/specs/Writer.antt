@@ -8,7 +8,7 @@ use Rattle.archive.specs.Record.{archive_record}
 
 abbrev pub answer_of : Settled → ℕ → Outcome
 answer_of (refused r) room = Err r
-answer_of (settled m) room = if eqb room (56 + 64 * m.unit_count) then (Ok tt) else Err BufferLength
+answer_of (settled m) room = if eqb room (56 + 64 * m.unit_count) then Ok tt else Err BufferLength
 
 unfoldable pub write_answer : (sheet list : List ℕ) → Outcome
 write_answer sheet list = answer_of (settled_sheet newest sheet) (length list)

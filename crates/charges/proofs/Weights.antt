@@ -10,8 +10,6 @@ use borrow.Author.Tests.{ne_eqb}
 use lib.Dec.{eqb}
 use lib.ListN.{length, take, set, length-map}
 use lib.Seq.{take-suc-set}
-use Rattle.std.specs.List as std
-use Rattle.std.proofs.lemmas.List.Recursion.{is_sum_by}
 use Rattle.apportion.specs.Shares.{sum}
 use Rattle.sheet.specs.Layout.{UnitRow, Sheet, sheet_of}
 use Rattle.sheet.specs.Inner.Fields.{unit_of, row_field}
@@ -39,10 +37,6 @@ next_weight f s out i v h l e inv =
 pub known_model : (m : ChargeModel) {model : ℕ} → model_code m ≡ model → other_model model ≡ false
 known_model ByLoad e = rw (← e) refl
 known_model ByArea e = rw (← e) refl
-
--- the sum is std's
-pub sum_is : (xs : List ℕ) → std.sum xs ≡ sum xs
-sum_is xs = sym (is_sum_by sum (λ x. x) refl (λ _ _. refl) xs)
 
 -- by a row's field
 pub weights_are : (model : ChargeModel) (s : Sheet) → map (λ u. row_field u (field_by model)) s.units ≡ charge_weights (model_code model) s

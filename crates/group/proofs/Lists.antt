@@ -1,5 +1,5 @@
 -- Lists side by side, and lists joined. Assumes nothing.
-use mathlib.Core.Path.{◌≡◌, refl, sym, ap, ◌∙◌}
+use mathlib.Core.Path.{◌≡◌, refl, ap, ◌∙◌}
 use mathlib.Core.Bool.{Bool, not, ◌||◌}
 use mathlib.Core.List.{List, [], ◌∷◌, ◌++◌, map, zip_with}
 use Prim.Native.Nat.{ℕ, zero, suc, ◌+◌, ◌*◌, ◌≤◌, ◌<◌}
@@ -15,7 +15,6 @@ use Rattle.std.specs.Prelude.{Result, Ok, Err}
 use Rattle.std.specs.Result.{IsErrAnd}
 use Rattle.std.proofs.lemmas.Int.{to_z-of_z}
 use Rattle.std.specs.List as std
-use Rattle.std.proofs.lemmas.List.Recursion.{is_sum_by}
 use Rattle.apportion.specs.Shares.{sum}
 use Rattle.sheet.specs.Tests.{any}
 use Rattle.month.specs.Fraction.{Fraction}
@@ -25,10 +24,7 @@ use Rattle.month.proofs.Lists.{sum_append, near_tail, near_cons, sum_to_cong, su
 use Rattle.group.specs.Group.{joined}
 use Rattle.group.specs.Answer.{differs}
 
--- ---- a sum, and any of the pairs of two lists, as std has them
-pub sum_is : (xs : List ℕ) → std.sum xs ≡ sum xs
-sum_is xs = sym (is_sum_by sum (λ x. x) refl (λ _ _. refl) xs)
-
+-- ---- any of the pairs of two lists, as std has it
 pub any_is : (test : ℕ → ℕ → Bool) (xs ys : List ℕ) → std.list_any (λ p. test p.0 p.1) (std.zip xs ys) ≡ any (zip_with test xs ys)
 unfolding any zip_with
 any_is test [] ys = refl

@@ -92,9 +92,6 @@ first_short {bytes = bytes} fits =
 pub further-next : (numbers : List ℕ) (j : ℕ) → j < length numbers → further (map decimal (drop j numbers)) ≡ (ascii " " ++ decimal (get_or numbers j 0)) ++ further (map decimal (drop (j + 1) numbers))
 further-next numbers j h = rw (add-one, drop-cons numbers j 0 h)
 
-pub further-none : (numbers : List ℕ) (j : ℕ) → length numbers ≤ j → further (map decimal (drop j numbers)) ≡ ascii "\n"
-further-none numbers j h = rw (drop_of_length-le numbers h)
-
 -- ---- one unit further
 -- the lines from unit i on
 abbrev pub lines_from : (sheet statement : List ℕ) (i : ℕ) → List ℕ

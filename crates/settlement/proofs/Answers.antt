@@ -40,7 +40,7 @@ module _ (rules : RuleSet) (bytes list : List ℕ) where
       unfolding settle_answer statement_after month_of
       wrong_length h = rw (is-settled, ne_eqb (length list) (8 * (sheet_of bytes).unit_count) (λ e. h (omega arith))) (refl, refl)
 
-      pub written : length list ≡ 8 * n → (out : List ℕ) → out ≡ statement_of rules (sheet_of bytes) → ((Ok tt) ≡ settle_answer rules bytes list) × (out ≡ statement_after rules bytes list)
+      pub written : length list ≡ 8 * n → (out : List ℕ) → out ≡ statement_of rules (sheet_of bytes) → (Ok tt ≡ settle_answer rules bytes list) × (out ≡ statement_after rules bytes list)
       unfolding settle_answer statement_after month_of
       written h out e = rw (is-settled, eq-eqb (length list) (8 * (sheet_of bytes).unit_count) (omega arith)) (refl, e)
 

@@ -16,7 +16,7 @@ use Rattle.month.proofs.Places.{settle-place}
 use Rattle.settlement.specs.Settle.{answer_of, settle_answer}
 
 -- 13 by a test of the list's length
-pub length-place : (t : Bool) → PlaceBelow 160 (if t then (Ok tt) else Err BufferLength)
+pub length-place : (t : Bool) → PlaceBelow 160 (if t then Ok tt else Err BufferLength)
 length-place true = tt
 length-place false = omega arith
 

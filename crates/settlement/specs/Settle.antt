@@ -8,7 +8,7 @@ use Rattle.month.specs.Month.{Settled, refused, settled, settled_sheet}
 -- `settle`: 1 to 12, then 13 unless the list has 8n numbers
 abbrev pub answer_of : Settled → ℕ → Outcome
 answer_of (refused r) room = Err r
-answer_of (settled m) room = if eqb room (8 * m.unit_count) then (Ok tt) else Err BufferLength
+answer_of (settled m) room = if eqb room (8 * m.unit_count) then Ok tt else Err BufferLength
 
 unfoldable pub settle_answer : RuleSet → List ℕ → List ℕ → Outcome
 settle_answer rules bytes list = answer_of (settled_sheet rules bytes) (length list)

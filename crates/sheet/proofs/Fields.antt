@@ -1,9 +1,9 @@
 -- Where the fields of a row stand. Assumes nothing.
-use mathlib.Core.Path.{◌≡◌, refl, sym, ap, ◌∙◌}
-use mathlib.Core.List.{List, [], ◌∷◌}
-use Prim.Native.Nat.{ℕ, ◌+◌, ◌≤◌, ◌<◌}
+use mathlib.Core.Path.{◌≡◌, sym, ap, ◌∙◌}
+use mathlib.Core.List.{List}
+use Prim.Native.Nat.{ℕ, ◌+◌, ◌<◌}
 use native.Mathlib.Omega.{arith}
-use lib.ListN.{length, take, drop}
+use lib.ListN.{take, drop}
 use lib.Seq.{get_or-take, get_or-drop}
 use Rattle.sheet.specs.Layout.{byte, le16, le32}
 
@@ -20,11 +20,3 @@ module _ (bytes : List ℕ) (at : ℕ) where
 
   pub le32_cut : (m k : ℕ) → m ≡ at + k → k + 3 < 32 → le32 bytes m ≡ le32 row k
   le32_cut m k e h = omega (arith, le16_cut m k e (omega arith), byte_cut (m + 2) (k + 2) (omega arith) (omega arith), byte_cut (m + 3) (k + 3) (omega arith) h)
-
--- ---- the first four bytes
-pub four_bytes : (bytes : List ℕ) → 4 ≤ length bytes → take 4 bytes ≡ byte bytes 0 ∷ byte bytes 1 ∷ byte bytes 2 ∷ byte bytes 3 ∷ []
-four_bytes [] h = absurd (omega arith)
-four_bytes (a ∷ []) h = absurd (omega arith)
-four_bytes (a ∷ b ∷ []) h = absurd (omega arith)
-four_bytes (a ∷ b ∷ c ∷ []) h = absurd (omega arith)
-four_bytes (a ∷ b ∷ c ∷ d ∷ bytes) h = refl

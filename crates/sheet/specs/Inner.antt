@@ -1,4 +1,5 @@
 -- What inner functions promise each other. Nothing in here need be believed.
+pub mod Codes
 pub mod Fields
 pub mod FieldRanges
 pub mod Fits

@@ -3,7 +3,6 @@ pub mod Tests
 pub mod Refusals
 pub mod RuleSets
 pub mod Layout
-pub mod Codes
 pub mod Check
 pub mod WattHours
 pub mod Inner

@@ -1,6 +1,6 @@
 // The kinds that a sheet names by a number: its model and hot-water source, a unit's status and water class (document 01, "The sheet").
 ghost use Rattle.std.specs.Prelude.{◌≡◌, leb};
-ghost use Rattle.sheet.specs.Codes.{model_code, DecodesModel, DecodesSource, DecodesStatus, DecodesClass};
+ghost use Rattle.sheet.specs.Inner.Codes.{model_code, DecodesModel, DecodesSource, DecodesStatus, DecodesClass};
 
 // A number that stands for no kind.
 #[derive(Clone, Copy)]

@@ -28,7 +28,7 @@ pub struct RowView<'a> {
 impl<'a> Sheet<'a> {
     ghost use Rattle.std.specs.Prelude.{◌≤◌, IfOk, length, take, drop};
     ghost use Rattle.sheet.specs.Refusals.{outcome_of};
-    ghost use Rattle.sheet.specs.Codes.{model_code, source_code};
+    ghost use Rattle.sheet.specs.Inner.Codes.{model_code, source_code};
     ghost use Rattle.sheet.specs.Inner.Fields.{header_field};
 
     // Any bytes: 1 to 7.
@@ -95,7 +95,7 @@ impl<'a> Sheet<'a> {
 }
 
 impl<'a> RowView<'a> {
-    ghost use Rattle.sheet.specs.Codes.{status_code, class_code};
+    ghost use Rattle.sheet.specs.Inner.Codes.{status_code, class_code};
     ghost use Rattle.sheet.specs.Inner.Fields.{row_field};
     ghost use Rattle.sheet.specs.Inner.Views.{unit_in};
 

@@ -18,7 +18,7 @@ refusals =
     ∷ BufferLength ∷ BadArchive ∷ BadYearBook ∷ OtherBuilding ∷ MonthState ∷ NoSuchUnit ∷ BadYearSums ∷ FieldConflict 0
     ∷ []
 
-numbers : map answer_number ((Ok tt) ∷ map Err refusals)
+numbers : map answer_number (Ok tt ∷ map Err refusals)
     ≡ 0 ∷ 1 ∷ 2 ∷ 3 ∷ 4 ∷ 5 ∷ 6 ∷ 7 ∷ 8 ∷ 9 ∷ 10 ∷ 11 ∷ 12 ∷ 13 ∷ 14 ∷ 15 ∷ 16 ∷ 17 ∷ 18 ∷ 19 ∷ 20 ∷ []
 unfolding refusals
 numbers = refl

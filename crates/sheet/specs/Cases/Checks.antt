@@ -1,8 +1,7 @@
 -- Computed cases of the check: each of refusals 1 to 7 and 20, its place, and which of two faults decides, alone and in a record. One table, one theorem. The ranges stand in Ranges.
-use Rattle.std.specs.Prelude.{◌≡◌, refl, List, [], ◌∷◌, ◌++◌, map, ℕ, ◌+◌, ◌*◌, take, Ok, Err}
+use Rattle.std.specs.Prelude.{◌≡◌, refl, List, [], ◌∷◌, ◌++◌, map, ℕ, ◌+◌, ◌*◌, take, Some, None, Ok, Err}
 use Rattle.sheet.specs.Refusals.{Outcome, first_refusal}
 use Rattle.sheet.specs.declared.refusal.Refusal.TheVariants.{TooShort, BadMagic, UnsupportedVersion, HeaderField, WrongLength, RowField, IdOrder, FieldConflict}
-use Rattle.std.specs.Prelude.{Some, None}
 use Rattle.sheet.specs.Layout.{in_bytes, unit_row, rows, sheet_of}
 use Rattle.sheet.specs.Check.{header_tests, row_tests, field_rules, row_rules, sheet_rules, checked}
 use Rattle.sheet.specs.WattHours.{plus_wh}

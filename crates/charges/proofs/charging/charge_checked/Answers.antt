@@ -23,7 +23,8 @@ use Rattle.charges.specs.Charges.{charge_weights}
 use Rattle.charges.specs.Answer.{other_model}
 use Rattle.charges.specs.Inner.Models.{model_code}
 use Rattle.charges.proofs.ByUnit.{charges-by}
-use Rattle.charges.proofs.Weights.{known_model, weights-count, sum-small, sum_is}
+use Rattle.apportion.proofs.Sums.{sum_is}
+use Rattle.charges.proofs.Weights.{known_model, weights-count, sum-small}
 use Rattle.charges.proofs.Answers.{amount_over, model_unknown, zero-sum, wrong_list, right-list, within_limit}
 use Rattle.charges.proofs.charging.charge_checked.Goals.{After-gather, After-sum-whole}
 use Rattle.charges.proofs.charging.charge_checked.Goals as goal

@@ -5,7 +5,7 @@ use Rattle.std.specs.List as std
 use Rattle.std.proofs.lemmas.Int.{ints}
 use Rattle.std.proofs.Common.{rules}
 use Rattle.apportion.specs.Shares.{sum}
-use Rattle.group.proofs.Lists.{sum_is}
+use Rattle.apportion.proofs.Sums.{sum_is}
 use Rattle.group.proofs.difference.difference.Goals.{After-sum-total}
 use Rattle.group.proofs.difference.difference.Goals as goal
 

@@ -9,7 +9,7 @@ use Rattle.std.proofs.Common.{rules}
 use Rattle.apportion.specs.Shares.{sum, shares, added, remainder}
 use Rattle.apportion.proofs.Turns.{turned, turns, remainder_by}
 use Rattle.month.proofs.Nearness.{item_le}
-use Rattle.group.proofs.Lists.{sum_is}
+use Rattle.apportion.proofs.Sums.{sum_is}
 use Rattle.group.proofs.Replacing.{none-replaced, one-replaced, all-replaced}
 use Rattle.group.proofs.difference.share_difference.Invariants.{turned_with}
 use Rattle.group.proofs.difference.share_difference.Goals.{After-iter, After-sum-whole, After-share}

@@ -3,7 +3,7 @@ use Prim.Native.Nat.{◌<◌}
 use native.Mathlib.Omega.{arith}
 use Rattle.sheet.specs.declared.codes.Model.{Model}
 use Rattle.sheet.specs.declared.codes.Model.TheVariants.{ByLoad, ByArea, ByAllocatorsAndArea, ByAllocatorsAndRisers, ByMeters}
-use Rattle.sheet.specs.Codes.{model_code}
+use Rattle.sheet.specs.Inner.Codes.{model_code}
 use Rattle.settlement.proofs.Dividing.{load-heat, area-heat, load_is, area-is}
 use Rattle.settlement.proofs.heat.unit_heat.Goals as goal
 

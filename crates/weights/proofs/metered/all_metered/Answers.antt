@@ -3,7 +3,7 @@ use mathlib.Core.Bool.{false}
 use lib.Dec.{eqb}
 use Rattle.sheet.specs.declared.codes.Model.{Model}
 use Rattle.sheet.specs.declared.codes.Model.TheVariants.{ByLoad, ByArea, ByAllocatorsAndArea, ByAllocatorsAndRisers, ByMeters}
-use Rattle.sheet.specs.Codes.{model_code}
+use Rattle.sheet.specs.Inner.Codes.{model_code}
 use Rattle.sheet.specs.Layout.{sheet_of}
 use Rattle.sheet.proofs.Views.{sheet_fits}
 use Rattle.month.specs.Weights.{all_metered}

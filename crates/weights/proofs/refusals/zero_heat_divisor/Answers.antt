@@ -5,7 +5,7 @@ use Prim.Native.Nat.{ℕ}
 use lib.Dec.{eqb}
 use Rattle.sheet.specs.declared.codes.Model.{Model}
 use Rattle.sheet.specs.declared.codes.Model.TheVariants.{ByLoad, ByArea, ByAllocatorsAndArea, ByAllocatorsAndRisers, ByMeters}
-use Rattle.sheet.specs.Codes.{model_code}
+use Rattle.sheet.specs.Inner.Codes.{model_code}
 use Rattle.sheet.specs.Tests.{any}
 use Rattle.weights.proofs.refusals.zero_heat_divisor.Goals as goal
 

@@ -10,7 +10,7 @@ use Rattle.sheet.specs.Layout.{Sheet}
 use Rattle.group.specs.declared.buildings.PassedGroup.{PassedGroup}
 use Rattle.group.specs.Answer.{differs, unlike}
 use Rattle.group.specs.Inner.Parts.{sheets_in}
-use Rattle.group.proofs.Lists.{sum_is}
+use Rattle.apportion.proofs.Sums.{sum_is}
 use Rattle.group.proofs.Passing.{units_few}
 use Rattle.group.proofs.Outcomes.{months_differ, wrong_list, right-list}
 use Rattle.group.proofs.buildings.PassedGroup.check_list.Goals.{After-fields, After-sum-count, then-differs-via-then-differs, then-differs-via-else-differs+then-differs-2}

@@ -7,7 +7,7 @@ use lib.Dec.{eqb}
 use borrow.Author.Tests.{eq-eqb, ne_eqb}
 use Rattle.sheet.specs.declared.codes.Model.{Model}
 use Rattle.sheet.specs.declared.codes.Model.TheVariants.{ByLoad, ByArea, ByAllocatorsAndArea, ByAllocatorsAndRisers, ByMeters}
-use Rattle.sheet.specs.Codes.{model_code}
+use Rattle.sheet.specs.Inner.Codes.{model_code}
 use Rattle.sheet.specs.Inner.Views.{sheet_in}
 use Rattle.month.specs.Weights.{reading_sum, read_weight}
 use Rattle.weights.specs.declared.basis.Unit.{Unit}
