@@ -10,7 +10,6 @@ ghost use Rattle.std.specs.Prelude.{◌≡◌, ◌-◌, ◌^◌, ◌<◌, length
 ghost use Rattle.apportion.specs.Shares.{sum, shares, remainders};
 
 use narrowing::Leftover;
-use quotas::sum_of;
 use quotient::Divisor;
 
 // Divides the total by the weights. `scratch` then holds the remainders.
@@ -25,8 +24,7 @@ pub fn apportion(total: u64, ws: &[u64], scratch: &mut [u64], out: &mut [u32])
         out.fill(0);
         return;
     }
-    let whole = sum_of(ws);
-    let divisor = Divisor::new(whole);
+    let divisor = Divisor::new(ws.iter().sum());
     let down = quotas::round_down(total, divisor, ws, scratch, out);
     let left = total - down.sum;
     if left == 0 {

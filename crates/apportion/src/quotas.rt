@@ -5,13 +5,6 @@ ghost use Rattle.apportion.specs.Inner.Selection.{RoundedDown};
 
 use super::quotient::Divisor;
 
-pub(crate) fn sum_of(ws: &[u64]) -> u64
-    requires { sum ws.now < 2 ^ 62 }
-    ensures { result ≡ sum ws.now }
-{
-    ws.iter().sum()
-}
-
 // The sum of the quotas, the largest remainder, and how many remainders are above 0.
 #[derive(Clone, Copy)]
 pub struct Down {

@@ -52,10 +52,10 @@ fn highest(counts: &[u32; 64], left: u64) -> u64
     ensures { result < 64 }
 {
     let mut above = 0;
-    for b in (1..64).rev() {
-        above += u64::from(counts[b as usize]);
+    for (b, &count) in counts.iter().enumerate().rev() {
+        above += u64::from(count);
         if left <= above {
-            return b;
+            return b as u64;
         }
     }
     0

@@ -2,7 +2,7 @@
 // total (u32) and as many weights (u64) as the count says, all little-endian.
 #![tactic(auto)]
 
-ghost use Rattle.std.specs.Prelude.{true, ◌≡◌, ◌+◌, ◌-◌, ◌*◌, ◌%◌, ◌^◌, ◌≤◌, ◌<◌, IfOk, IfSome, length};
+ghost use Rattle.std.specs.Prelude.{true, ◌≡◌, ◌-◌, ◌^◌, ◌≤◌, ◌<◌, IfOk, IfSome, length};
 ghost use Rattle.apportion.specs.Shares.{sum};
 
 use std::io;
@@ -11,9 +11,6 @@ use std::io;
 const ROOM: usize = 65_536;
 
 const MOST_WEIGHTS: usize = 640;
-
-// Of a vector before its weights.
-const HEADER: usize = 6;
 
 // No total reaches this.
 const TOTAL_LIMIT: u32 = 4_294_967_295;
@@ -25,11 +22,7 @@ const SUM_LIMIT: u64 = 4_611_686_018_427_387_904;
 fn checked_sum(ws: &[u64]) -> Option<u64>
     ensures { IfSome result (λ s. s ≡ sum ws.now) }
 {
-    let mut total: u64 = 0;
-    for w in ws {
-        total = total.checked_add(*w)?;
-    }
-    Some(total)
+    ws.iter().try_fold(0u64, |sum, &w| sum.checked_add(w))
 }
 
 // Whether the library takes this division.
@@ -42,9 +35,9 @@ fn is_admitted(total: u32, ws: &[u64]) -> bool
     total < TOTAL_LIMIT && sum < SUM_LIMIT && (total == 0 || 0 < sum)
 }
 
-// The total of the first vector, and the bytes of its weights. None where it has none, too many or not all.
-fn first_vector(s: &[u8]) -> Option<(u32, &[u8])>
-    ensures { IfSome result (λ v. (length v.1.now ≤ 8 * MOST_WEIGHTS) × (length v.1.now % 8 ≡ 0) × (HEADER + length v.1.now ≤ length s.now)) }
+// The total of the first vector, its weights in bytes, and what follows it. None where it has none, too many or not all.
+fn first_vector(s: &[u8]) -> Option<(u32, &[[u8; 8]], &[u8])>
+    ensures { IfSome result (λ v. (length v.1.now ≤ MOST_WEIGHTS) × (length v.2.now < length s.now)) }
 {
     let (count, rest) = s.split_first_chunk()?;
     let (total, rest) = rest.split_first_chunk()?;
@@ -52,19 +45,9 @@ fn first_vector(s: &[u8]) -> Option<(u32, &[u8])>
     if count == 0 || MOST_WEIGHTS < count {
         return None;
     }
-    let weights = rest.get(..8 * count)?;
-    Some((u32::from_le_bytes(*total), weights))
-}
-
-fn read_weights(bytes: &[u8], ws: &mut [u64])
-    requires { length bytes.now ≡ 8 * length ws.old }
-{
-    let mut rest = bytes;
-    for w in ws.iter_mut() {
-        let (first, others) = rest.split_first_chunk().unwrap();
-        *w = u64::from_le_bytes(*first);
-        rest = others;
-    }
+    let (weights, rest) = rest.split_at_checked(8 * count)?;
+    let (weights, _) = weights.as_chunks();
+    Some((u32::from_le_bytes(*total), weights, rest))
 }
 
 fn print_shares(rt: &impl Print, shares: &[u32]) -> io::Result<()> {
@@ -77,35 +60,37 @@ fn print_shares(rt: &impl Print, shares: &[u32]) -> io::Result<()> {
     console::newline(rt)
 }
 
-// Divides the first vector of `s` and prints its shares. How many bytes it has, or none where it is bad.
-fn divide(rt: &impl Print, s: &[u8]) -> io::Result<Option<usize>>
-    ensures { IfOk result (λ v. IfSome v (λ size. (0 < size) × (size ≤ length s.now))) }
+// Divides the first vector of `s` and prints its shares. What follows it, or none where it is bad.
+fn divide<'a>(rt: &impl Print, s: &'a [u8]) -> io::Result<Option<&'a [u8]>>
+    ensures { IfOk result (λ v. IfSome v (λ rest. length rest.now < length s.now)) }
 {
-    let Some((total, weights)) = first_vector(s) else {
+    let Some((total, weights, rest)) = first_vector(s) else {
         return Ok(None);
     };
-    let count = weights.len() / 8;
+    let count = weights.len();
     let mut ws = [0u64; MOST_WEIGHTS];
     let mut scratch = [0u64; MOST_WEIGHTS];
     let mut out = [0u32; MOST_WEIGHTS];
     let (ws, scratch, out) = (&mut ws[..count], &mut scratch[..count], &mut out[..count]);
-    read_weights(weights, ws);
+    for (w, bytes) in ws.iter_mut().zip(weights) {
+        *w = u64::from_le_bytes(*bytes);
+    }
     if !is_admitted(total, ws) {
         return Ok(None);
     }
     apportion::apportion(u64::from(total), ws, scratch, out);
     print_shares(rt, out)?;
-    Ok(Some(HEADER + weights.len()))
+    Ok(Some(rest))
 }
 
 // Divides the vectors in order, as far as the first bad one.
 fn divide_all(rt: &impl Print, s: &[u8]) -> io::Result<()> {
     let mut rest = s;
     while !rest.is_empty() {
-        let Some(size) = divide(rt, rest)? else {
+        let Some(others) = divide(rt, rest)? else {
             return rt.print("bad vector\n");
         };
-        rest = &rest[size..];
+        rest = others;
     }
     Ok(())
 }

@@ -15,11 +15,11 @@ use Rattle.sheet.specs.declared.rule_set.RuleSet.{RuleSet}
 use Rattle.sheet.specs.RuleSets.{newest}
 use Rattle.sheet.specs.Layout.{Sheet, sheet_of, in_bytes}
 use Rattle.sheet.specs.Check.{same_list, sheet_rules, checked}
-use Rattle.sheet.proofs.Views.{accepted, sheet_fits}
+use Rattle.sheet.proofs.Views.{accepted, passed_fits}
 use Rattle.sheet.proofs.Rules.{first-refused, first-accepted}
 use Rattle.sheet.proofs.Inside.{end, inside, behind, all-length, same-sheet}
 use Rattle.month.specs.Month.{settled, statement_of, month_of, month_rules, settled_sheet}
-use Rattle.settlement.specs.Settle.{settle_answer, statement_after}
+use Rattle.settlement.specs.Inner.Months.{month_answer, after_month}
 use Rattle.settlement.proofs.Parts.{lent_length}
 use Rattle.settlement.proofs.Answers.{settled-in_order, answer-is, settles, statement-is}
 use Rattle.archive.specs.Record.{archive_record}
@@ -47,47 +47,47 @@ module _ (sheet list : List ℕ) where
   refused-sheet e = rw (settled-in_order newest sheet, e) (refl, refl)
 
   module _ (numbers : List ℕ) (passed : IsOk (checked 32 sheet)) (room : length numbers ≡ 8 * (sheet_of sheet).unit_count) where
-    pub refused-month : {r : Refusal} → settle_answer newest sheet numbers ≡ Err r → Writes (Err r) list
+    pub refused-month : {r : Refusal} → month_answer newest (sheet_of sheet) numbers ≡ Err r → Writes (Err r) list
     unfolding write_answer record_after
-    refused-month e = rw (settled-in_order newest sheet, accepted _ passed, sym (answer-is newest sheet numbers (accepted _ passed) room) ∙ e) (refl, refl)
+    refused-month e = rw (settled-in_order newest sheet, accepted _ passed, sym (answer-is newest (sheet_of sheet) numbers room) ∙ e) (refl, refl)
 
-    module _ (ok : settle_answer newest sheet numbers ≡ Ok tt) where
+    module _ (ok : month_answer newest (sheet_of sheet) numbers ≡ Ok tt) where
       is-settled : settled_sheet newest sheet ≡ settled (month_of newest (sheet_of sheet))
-      is-settled = settles newest sheet numbers (accepted _ passed) room ok
+      is-settled = settles newest sheet numbers (accepted _ passed) (sym (answer-is newest (sheet_of sheet) numbers room) ∙ ok)
 
       -- head, sheet and statement are 56 + 64n bytes
       pub wrong_length : (length list ≡ 8 + length sheet + 4 * length numbers → ⊥) → Writes (Err BufferLength) list
       unfolding write_answer record_after month_of
-      wrong_length h = rw (is-settled, ne_eqb (length list) (56 + 64 * (sheet_of sheet).unit_count) (λ e. h (omega (arith, (sheet_fits sheet passed).byte_count)))) (refl, refl)
+      wrong_length h = rw (is-settled, ne_eqb (length list) (56 + 64 * (sheet_of sheet).unit_count) (λ e. h (omega (arith, (passed_fits sheet passed).byte_count)))) (refl, refl)
 
-      pub written : length list ≡ 8 + length sheet + 4 * length numbers → {after out : List ℕ} → after ≡ statement_after newest sheet numbers → out ≡ archive_record newest sheet after → Writes (Ok tt) out
+      pub written : length list ≡ 8 + length sheet + 4 * length numbers → {after out : List ℕ} → after ≡ after_month newest (sheet_of sheet) numbers → out ≡ archive_record newest sheet after → Writes (Ok tt) out
       unfolding write_answer record_after month_of
       written h last e =
-          rw (is-settled, eq-eqb (length list) (56 + 64 * (sheet_of sheet).unit_count) (omega (arith, (sheet_fits sheet passed).byte_count)))
-          (refl, e ∙ ap (archive_record newest sheet) (last ∙ statement-is newest sheet numbers (accepted _ passed) room ok))
+          rw (is-settled, eq-eqb (length list) (56 + 64 * (sheet_of sheet).unit_count) (omega (arith, (passed_fits sheet passed).byte_count)))
+          (refl, e ∙ ap (archive_record newest sheet) (last ∙ statement-is newest (sheet_of sheet) numbers room ok))
 
--- ---- the reader: a sheet that passes, and the statement behind it
-module _ (rules : RuleSet) (sheet numbers : List ℕ) (passed : IsOk (checked 32 sheet)) (room : length numbers ≡ 8 * (sheet_of sheet).unit_count) (statement : List ℕ) where
+-- ---- the reader: a sheet, and the statement behind it
+module _ (rules : RuleSet) (s : Sheet) (numbers : List ℕ) (room : length numbers ≡ 8 * s.unit_count) (statement : List ℕ) where
   abbrev last : Bool → List Rule
   last same = (not same ⇒ BadArchive) ∷ []
 
   same : Bool
-  same = same_list statement (in_bytes (statement_of rules (sheet_of sheet)))
+  same = same_list statement (in_bytes (statement_of rules s))
 
-  month-is : first_refusal (month_rules (sheet_of sheet)) ≡ settle_answer rules sheet numbers
-  month-is = sym (answer-is rules sheet numbers (accepted _ passed) room)
+  month-is : first_refusal (month_rules s) ≡ month_answer rules s numbers
+  month-is = sym (answer-is rules s numbers room)
 
-  pub unsettled : {r : Refusal} → settle_answer rules sheet numbers ≡ Err r → Err r ≡ first_refusal (statement_rules rules (sheet_of sheet) statement)
+  pub unsettled : {r : Refusal} → month_answer rules s numbers ≡ Err r → Err r ≡ first_refusal (statement_rules rules s statement)
   unfolding statement_rules
-  unsettled e = sym (first-refused (month_rules (sheet_of sheet)) _ (month-is ∙ e))
+  unsettled e = sym (first-refused (month_rules s) _ (month-is ∙ e))
 
-  pub by-statement : settle_answer rules sheet numbers ≡ Ok tt → {after : List ℕ} {t u : Bool} → after ≡ statement_after rules sheet numbers → t ≡ same_list statement (in_bytes after) → t ≡ u
-      → first_refusal (last u) ≡ first_refusal (statement_rules rules (sheet_of sheet) statement)
+  pub by-statement : month_answer rules s numbers ≡ Ok tt → {after : List ℕ} {t u : Bool} → after ≡ after_month rules s numbers → t ≡ same_list statement (in_bytes after) → t ≡ u
+      → first_refusal (last u) ≡ first_refusal (statement_rules rules s statement)
   unfolding statement_rules
   by-statement ok are is test =
-      let numbers-are = are ∙ statement-is rules sheet numbers (accepted _ passed) room ok in
+      let numbers-are = are ∙ statement-is rules s numbers room ok in
       ap (λ (t : Bool). first_refusal (last t)) (sym test ∙ is ∙ ap (λ (ns : List ℕ). same_list statement (in_bytes ns)) numbers-are)
-      ∙ sym (first-accepted (month_rules (sheet_of sheet)) _ (month-is ∙ ok))
+      ∙ sym (first-accepted (month_rules s) _ (month-is ∙ ok))
 
 -- ---- the reader: 14, 1 to 7, then the above
 -- a part up to the end, as the code cuts it

@@ -14,12 +14,11 @@ fn same_statement(bytes: &[u8], numbers: &[u32]) -> bool
     requires { length bytes.now ≡ 4 * length numbers.now }
     ensures { result ≡ same_list bytes.now (in_bytes numbers.now) }
 {
-    for (four, number) in bytes.chunks_exact(4).zip(numbers) {
-        if four != number.to_le_bytes().as_slice() {
-            return false;
-        }
-    }
-    true
+    let (fours, _) = bytes.as_chunks::<4>();
+    fours
+        .iter()
+        .zip(numbers)
+        .all(|(four, number)| *four == number.to_le_bytes())
 }
 
 // 8 to 12 of a sheet of no more than N / 8 units, then the statement that stands behind it.

@@ -1,7 +1,8 @@
 // The writer.
-ghost use Rattle.std.specs.Prelude.{◌≡◌, ◌+◌, ◌*◌, ◌≤◌, length};
+ghost use Rattle.std.specs.Prelude.{◌≡◌, ◌+◌, ◌*◌, ◌≤◌, IsOk, length};
 ghost use Rattle.sheet.specs.RuleSets.{newest};
 ghost use Rattle.sheet.specs.Layout.{sheet_of, in_bytes};
+ghost use Rattle.sheet.specs.Check.{checked};
 ghost use Rattle.archive.specs.Record.{archive_record};
 ghost use Rattle.archive.specs.Writer.{write_answer, record_after};
 
@@ -32,7 +33,8 @@ fn put_record(sheet: &[u8], numbers: &[u32], out: &mut [u8])
 
 // 8 to 12 of a sheet of no more than N / 8 units, then 13, then the record.
 fn write_with_room<const N: usize>(sheet: Sheet<'_>, out: &mut [u8]) -> Result<(), Refusal>
-    requires { (8 * (sheet_of sheet.bytes.now).unit_count ≤ N) × (N ≤ 1280) }
+    requires room { (8 * (sheet_of sheet.bytes.now).unit_count ≤ N) × (N ≤ 1280) }
+    requires passed { IsOk (checked 32 sheet.bytes.now) }
     ensures value { result ≡ write_answer sheet.entry.bytes.now out.old }
     ensures out_after { out.new ≡ record_after sheet.entry.bytes.now out.old }
 {

@@ -64,15 +64,14 @@ fn answer_next(rt: &(impl Input + Print), length: usize) -> io::Result<()>
     let model = next32(rt)?;
     let amounts = next_amounts(rt)?;
     let numbers = console::next_up_to(rt, MOST_NUMBERS)?;
-    let (Some(model), Some(amounts), Some(numbers)) = (model, amounts, numbers) else {
+    let size = length.checked_sub(HEADER);
+    let (Some(model), Some(amounts), Some(numbers), Some(size)) = (model, amounts, numbers, size)
+    else {
         return Ok(());
     };
-    if length < HEADER {
-        return Ok(());
-    }
     let mut list = [0u32; MOST_NUMBERS];
     let list = &mut list[..numbers];
-    console::with_input::<LONGEST, _>(rt, length - HEADER, |sheet| {
+    console::with_input::<LONGEST, _>(rt, size, |sheet| {
         answer(rt, sheet, model, amounts, list)
     })
 }

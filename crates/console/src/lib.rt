@@ -1,8 +1,9 @@
 // What the programs share: answers on standard output, bytes and numbers from standard input.
 #![tactic(auto)]
 
-ghost use Rattle.std.specs.Prelude.{◌≡◌, ℕ, ◌+◌, ◌^◌, ◌≤◌, ◌<◌, IfOk, IfSome, EachIndex, length, slice_get};
+ghost use Rattle.std.specs.Prelude.{◌≡◌, ℕ, ◌+◌, ◌^◌, ◌≤◌, ◌<◌, IfOk, IfSome, IfNone, MatchOption, EachIndex, length, take, slice_get};
 ghost use Rattle.std.specs.Io.{ReadsAtMost};
+ghost use Rattle.std.specs.Io.KnownBytes.{Consumes, IsAtEnd};
 
 use sheet::Refusal;
 use std::io;
@@ -32,11 +33,12 @@ pub fn answer<T: Copy>(rt: &impl Print, outcome: Result<T, Refusal>) -> io::Resu
     word(rt, u64::from(y))
 }
 
-// Reads until the buffer is full or the input ends. How many bytes it put at the buffer's start.
-pub fn read_full(rt: &impl Input, buffer: &mut [u8]) -> io::Result<usize>
-    ensures { ReadsAtMost result buffer.new }
+// Reads until the buffer is full or the reader ends. How many bytes it put at the buffer's start.
+fn fill<R: Read>(reader: &mut R, buffer: &mut [u8]) -> io::Result<usize>
+    ensures bound { ReadsAtMost result buffer.new }
+    ensures bytes { IfOk result (λ n. Consumes (R.remaining reader.old) (R.remaining reader.new) (take n buffer.new)) }
+    ensures end { IfOk result (λ n. n < length buffer.new → IsAtEnd (R.remaining reader.new)) }
 {
-    let mut reader = rt.reader();
     let mut done = 0;
     while done < buffer.len() {
         let n = reader.read(&mut buffer[done..])?;
@@ -48,13 +50,30 @@ pub fn read_full(rt: &impl Input, buffer: &mut [u8]) -> io::Result<usize>
     Ok(done)
 }
 
-// The next N bytes, or none where the input ends before the last of them.
-pub fn next<const N: usize>(rt: &impl Input) -> io::Result<Option<[u8; N]>> {
+// The reader's next N bytes, or none where it ends before the last of them.
+fn next_of<R: Read, const N: usize>(reader: &mut R) -> io::Result<Option<[u8; N]>>
+    ensures bytes { IfOk result (λ x. MatchOption x (IfSome (R.remaining reader.old) (λ left. length left < N)) (λ bytes. Consumes (R.remaining reader.old) (R.remaining reader.new) bytes)) }
+    ensures none { IfOk result (λ x. IfNone x (0 < N)) }
+{
     let mut bytes = [0u8; N];
-    if read_full(rt, &mut bytes)? < N {
+    if fill(reader, &mut bytes)? < N {
         return Ok(None);
     }
     Ok(Some(bytes))
+}
+
+// Reads until the buffer is full or the input ends. How many bytes it put at the buffer's start.
+pub fn read_full(rt: &impl Input, buffer: &mut [u8]) -> io::Result<usize>
+    ensures { ReadsAtMost result buffer.new }
+{
+    fill(&mut rt.reader(), buffer)
+}
+
+// The next N bytes of the input, or none where it ends before the last of them.
+pub fn next<const N: usize>(rt: &impl Input) -> io::Result<Option<[u8; N]>>
+    ensures { IfOk result (λ x. IfNone x (0 < N)) }
+{
+    next_of(&mut rt.reader())
 }
 
 // The next number of 16 bits, or none where the input ends before it or it is above `most`.
@@ -121,11 +140,9 @@ pub fn each_input<const LONGEST: usize, F: Fn(&[u8]) -> io::Result<()>>(
 
 // A list as one number.
 pub fn digest<T: Copy + Into<u64>>(list: &[T]) -> u64 {
-    let mut sum: u64 = 0;
-    for x in list {
-        sum = (31 * sum + (*x).into() % 1_000_000_007) % 1_000_000_007;
-    }
-    sum
+    list.iter().fold(0, |sum: u64, x| {
+        (31 * sum + (*x).into() % 1_000_000_007) % 1_000_000_007
+    })
 }
 
 // Writes 1, 2, 3 and so on.
@@ -133,10 +150,8 @@ pub fn count_up(list: &mut [u32])
     requires { length list.old < 2 ^ 32 }
     ensures { EachIndex list.new (λ i. slice_get list.new i ≡ Some (i + 1)) }
 {
-    let mut number: u32 = 0;
-    for x in list.iter_mut() {
-        number += 1;
-        *x = number;
+    for (i, x) in list.iter_mut().enumerate() {
+        *x = i as u32 + 1;
     }
 }
 

@@ -1,5 +1,5 @@
 -- Statements written one after the other: the parts of the list that are done, and one more. Assumes nothing.
-use mathlib.Core.Path.{◌≡◌, refl, sym, ap, ap₂, ◌∙◌}
+use mathlib.Core.Path.{◌≡◌, refl, sym, ap, ap₂, subst, ◌∙◌}
 use mathlib.Core.List.{List, [], ◌∷◌, ◌++◌, map, zip_with, append_assoc, append-nil}
 use Prim.Native.Nat.{ℕ, suc, ◌+◌, ◌*◌, ◌≤◌, ◌<◌}
 use native.Mathlib.Numerals.{add-one}
@@ -46,6 +46,9 @@ module _ (rules : RuleSet) (ss : List Sheet) (commons bills : List ℕ) where
     pub room : length out ≡ 8 * sum units
     pub place : at ≡ 8 * sum (take i units)
     pub done : take at out ≡ joined (take i all)
+
+  pub as_many_done : {out : List ℕ} {at i k : ℕ} → i ≡ k → Done out at i → Done out at k
+  as_many_done {out} {at} e d = subst (λ (k : ℕ). Done out at k) e d
 
   unit-count : length units ≡ length ss
   unit-count = length-map ss (λ s. s.unit_count)

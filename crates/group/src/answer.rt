@@ -21,3 +21,21 @@ impl From<Refusal> for GroupRefusal {
         }
     }
 }
+
+impl GroupRefusal {
+    ghost use Rattle.sheet.specs.Refusals.{number_of};
+    ghost use Rattle.group.specs.Answer.{place_in};
+
+    pub fn number(self) -> u32
+        ensures { result ≡ number_of self.refusal }
+    {
+        self.refusal.number()
+    }
+
+    // Raised by 160 × the building's.
+    pub fn place(self) -> u64
+        ensures { result ≡ place_in self }
+    {
+        u64::from(self.refusal.place()) + 160 * u64::from(self.building)
+    }
+}

@@ -48,11 +48,11 @@ impl Building {
 fn bad_group(sheets: &[u8], buildings: &[Building], reading: u64) -> bool
     ensures { result ≡ bad_group sheets.now buildings.now reading }
 {
-    if buildings.is_empty() | (MOST_BUILDINGS < buildings.len()) | (MOST_READING < reading) {
-        return true;
-    }
     let size = sheets.len() as u64;
-    buildings.iter().any(|&building| building.leaves(size))
+    buildings.is_empty()
+        || MOST_BUILDINGS < buildings.len()
+        || MOST_READING < reading
+        || buildings.iter().any(|building| building.leaves(size))
 }
 
 impl<'a> Group<'a> {

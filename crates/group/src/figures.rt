@@ -19,13 +19,11 @@ impl<'a> Group<'a> {
         requires { i < length self.buildings.now }
         ensures { result ≡ survey_answer newest i (part_in self.entry i) }
     {
-        match survey_sheet(sheet::NEWEST, self.part(i)) {
-            Ok(survey) => Ok(survey),
-            Err(refusal) => Err(GroupRefusal {
-                refusal,
-                building: i as u32,
-            }),
-        }
+        let building = i as u32;
+        survey_sheet(sheet::NEWEST, self.part(i)).map_err(|refusal| GroupRefusal {
+            refusal,
+            building,
+        })
     }
 
     // All buildings, in list order, up to the first that is refused.

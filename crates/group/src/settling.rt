@@ -21,16 +21,11 @@ impl<'a> PassedGroup<'a> {
         ensures { statement.new ≡ joined (statements_of newest (sheets_in self.entry.group) commons.now bills.now) }
     {
         let mut at = 0;
-        for i in 0..self.group.len() {
+        for (i, (&common, &bill)) in commons.iter().zip(bills).enumerate() {
             let sheet = self.sheet(i);
             let end = at + 8 * sheet.unit_count();
-            settle_with(
-                sheet::NEWEST,
-                sheet,
-                commons[i],
-                u64::from(bills[i]),
-                &mut statement[at..end],
-            );
+            let part = &mut statement[at..end];
+            settle_with(sheet::NEWEST, sheet, common, u64::from(bill), part);
             at = end;
         }
     }

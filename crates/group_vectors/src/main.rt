@@ -20,11 +20,9 @@ const MOST_BUILDINGS: usize = 255;
 // 250,000 bytes hold no more calls.
 const MOST_CALLS: usize = 125_000;
 
-// A refusal's place is raised by 160 × its building's.
 fn print_refusal(rt: &impl Print, e: GroupRefusal) -> io::Result<()> {
-    console::number(rt, u64::from(e.refusal.number()))?;
-    let place = u64::from(e.refusal.place()) + 160 * u64::from(e.building);
-    console::word(rt, place)
+    console::number(rt, u64::from(e.number()))?;
+    console::word(rt, e.place())
 }
 
 const NO_BUILDING: Building = Building {

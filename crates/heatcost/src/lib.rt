@@ -150,7 +150,7 @@ fn group_answer(outcome: Result<(), GroupRefusal>) -> u32
 {
     match outcome {
         Ok(()) => 0,
-        Err(e) => e.refusal.number() + 256 * (e.refusal.place() + 160 * e.building),
+        Err(e) => e.number() + 256 * e.place() as u32,
     }
 }
 

@@ -7,51 +7,54 @@ use borrow.Author.Tests.{le-leb, lt-leb}
 use lib.ListN.{length, take, drop, take-append-drop}
 use lib.Seq.{take-append_seam}
 use Rattle.sheet.specs.declared.refusal.Refusal.{Refusal}
-use Rattle.std.specs.Prelude.{Ok, Err, IsOk}
-use Rattle.sheet.proofs.Views.{accepted as passes}
+use Rattle.std.specs.Prelude.{Result, Ok, Err}
 use Rattle.sheet.specs.RuleSets.{newest}
 use Rattle.sheet.specs.Layout.{sheet_of}
 use Rattle.sheet.specs.Check.{checked}
 use Rattle.month.specs.Month.{Month, Settled, refused, settled, statement_of, month_of, settled_sheet}
 use Rattle.month.proofs.Accepted.{accepted}
 use Rattle.month.proofs.Laws.{settled-month as month-is}
-use Rattle.settlement.specs.Settle.{settle_answer, statement_after}
+use Rattle.settlement.specs.Inner.Months.{month_answer, after_month}
 use Rattle.settlement.proofs.Answers.{settled-in_order, answer-is, settles, statement-is}
-use Rattle.printing.specs.Printed.{text_of, longest, at_front}
-use Rattle.printing.specs.Inner.Placed.{Placed, Prints}
+use Rattle.printing.specs.Printed.{text_of, printed, longest, at_front}
+use Rattle.printing.specs.declared.settled.SettledMonth.{SettledMonth}
+use Rattle.printing.specs.Inner.Placed.{Placed}
+use Rattle.printing.specs.Inner.Outcomes.{settled_in}
+use Rattle.printing.proofs.Lines.{refusal_short}
 
-module _ (x : Settled) (list : List ℕ) (short : length (text_of x) ≤ longest x) where
-  abbrev text : List ℕ
-  text = text_of x
-
-  pub list-too_short : (len : ℕ) → len ≡ length text → length list < len → Prints x len list list
+module _ (text list : List ℕ) where
+  pub list-too_short : length list < length text → list ≡ at_front text list
   unfolding at_front
-  list-too_short len e h = record { long = e; short = omega arith; list = rw (lt-leb (length text) (length list) (omega arith)) }
+  list-too_short h = rw (lt-leb (length text) (length list) h)
 
-  pub put-at_front : (len : ℕ) {after : List ℕ} {end : ℕ} → len ≡ length text → len ≤ length list → Placed text list 0 after end → Prints x len list after
+  pub put-at_front : {after : List ℕ} {end : ℕ} → length text ≤ length list → Placed text list 0 after end → after ≡ at_front text list
   unfolding at_front
-  put-at_front len {after} {end} long h p =
+  put-at_front {after} {end} h p =
       let e : end ≡ length text = omega (arith, p.ends) in
-      record {
-        long = long;
-        short = omega arith;
-        list = rw (le-leb (length text) (length list) (omega arith)) (sym (take-append-drop end after) ∙ (λ i. p.front i ++ p.rest i) ∙ ap (λ (k : ℕ). text ++ drop k list) e);
-      }
+      rw (le-leb (length text) (length list) h) (sym (take-append-drop end after) ∙ (λ i. p.front i ++ p.rest i) ∙ ap (λ (k : ℕ). text ++ drop k list) e)
+
+pub outcome_short : (o : Result SettledMonth Refusal) → length (text_of (settled_in o)) ≤ longest (settled_in o)
+outcome_short (Ok month) = month.short
+outcome_short (Err r) = refusal_short r
+
+pub printed-is : (bytes : List ℕ) (x : Settled) → x ≡ settled_sheet newest bytes → text_of x ≡ printed bytes
+unfolding printed
+printed-is bytes x e = ap text_of e
 
 -- ---- which text: 1 to 7, then 8 to 12 by way of a list of 8n numbers
 pub refused-sheet : (bytes : List ℕ) (r : Refusal) → checked 32 bytes ≡ Err r → settled_sheet newest bytes ≡ refused r
 refused-sheet bytes r e = rw (settled-in_order newest bytes, e)
 
-module _ (bytes list : List ℕ) (passed : IsOk (checked 32 bytes)) (room : length list ≡ 8 * (sheet_of bytes).unit_count) where
-  pub refused-month : (r : Refusal) → settle_answer newest bytes list ≡ Err r → settled_sheet newest bytes ≡ refused r
-  refused-month r e = rw (settled-in_order newest bytes, passes _ passed, sym (answer-is newest bytes list (passes _ passed) room) ∙ e)
+module _ (bytes list : List ℕ) (passed : checked 32 bytes ≡ Ok tt) (room : length list ≡ 8 * (sheet_of bytes).unit_count) where
+  pub refused-month : (r : Refusal) → month_answer newest (sheet_of bytes) list ≡ Err r → settled_sheet newest bytes ≡ refused r
+  refused-month r e = rw (settled-in_order newest bytes, passed, sym (answer-is newest (sheet_of bytes) list room) ∙ e)
 
-  module _ (ok : settle_answer newest bytes list ≡ Ok tt) where
+  module _ (ok : month_answer newest (sheet_of bytes) list ≡ Ok tt) where
     pub settled-month : settled_sheet newest bytes ≡ settled (month_of newest (sheet_of bytes))
-    settled-month = settles newest bytes list (passes _ passed) room ok
+    settled-month = settles newest bytes list passed (sym (answer-is newest (sheet_of bytes) list room) ∙ ok)
 
-    pub statement : {after : List ℕ} → after ≡ statement_after newest bytes list → after ≡ statement_of newest (sheet_of bytes)
-    statement e = e ∙ statement-is newest bytes list (passes _ passed) room ok
+    pub statement : {after : List ℕ} → after ≡ after_month newest (sheet_of bytes) list → after ≡ statement_of newest (sheet_of bytes)
+    statement e = e ∙ statement-is newest (sheet_of bytes) list room ok
 
 -- ---- a list of 15,889 bytes has room for every text
 pub room_for_all : (bytes : List ℕ) → longest (settled_sheet newest bytes) ≤ 15889

@@ -1,9 +1,9 @@
 -- Laws of a number in decimal digits. Assumes nothing.
 use Rattle.std.specs.Prelude.{if◌then◌else◌}
-use mathlib.Core.Path.{◌≡◌, ap, subst}
+use mathlib.Core.Path.{◌≡◌, refl, ap, subst}
 use mathlib.Core.Bool.{Bool, true, false}
-use mathlib.Core.List.{List, [], ◌∷◌, ◌++◌}
-use Prim.Native.Nat.{ℕ, zero, suc, ◌+◌, ◌-◌, ◌*◌, ◌/◌, ◌%◌, ◌^◌, ◌≤◌, ◌<◌}
+use mathlib.Core.List.{List, [], ◌∷◌}
+use Prim.Native.Nat.{ℕ, zero, suc, ◌+◌, ◌-◌, ◌*◌, ◌/◌, ◌%◌, ◌^◌, ◌≤◌, ◌<◌, max}
 use native.Mathlib.Nat.{pow-suc, pow-le-pow_right, one-le-pow}
 use native.Mathlib.Omega.{arith}
 use lib.Dec.{ltb}
@@ -41,22 +41,23 @@ spelled (suc (suc k)) x (a, b, c) h =
     spelled_by 19 (suc k) x (omega (arith, few)) b (λ i. high)
 
 -- ---- how many digits
-one_more : (j x : ℕ) → x < 10 ^ suc j → digits_up_to (suc (suc j)) x ≡ digits_up_to (suc j) x
-unfolding digits_up_to
-one_more zero x h =
-    let low : x < 10 = h in
-    rw (lt-ltb x 10 low)
-one_more (suc j) x h =
-    let p : 10 ^ suc (suc j) ≡ 10 ^ suc j * 10 = pow-suc 10 (suc j) in
-    ap (λ (tens : List ℕ). if ltb x 10 then digit x ∷ [] else tens ++ (digit (x % 10) ∷ [])) (one_more j (x / 10) (omega arith))
+last-long : (k x : ℕ) → length (last_digits 10 k x) ≡ k
+last-long zero x = refl
+last-long (suc k) x = omega (arith, length-append (last_digits 10 k (x / 10)) (hex_digit_ascii (x % 10) ∷ []), last-long k (x / 10))
 
-pub decimal-one : (x : ℕ) → x < 10 → length (decimal x) ≡ 1
-unfolding decimal digits_up_to
-decimal-one x h = rw (lt-ltb x 10 h)
+reaches : (k x : ℕ) → 0 < k → 10 ^ k ≤ max x 1 → 10 ^ k ≤ x
+reaches zero x h le = absurd (omega arith)
+reaches (suc k) x h le =
+    let p : 10 ^ suc k ≡ 10 ^ k * 10 = pow-suc 10 k in
+    let o : 1 ≤ 10 ^ k = one-le-pow k 10 (omega arith) in
+    omega arith
 
-pub decimal_tens : (x : ℕ) → 10 ≤ x → x < 18446744073709551616 → length (decimal x) ≡ 1 + length (decimal (x / 10))
-unfolding decimal digits_up_to
-decimal_tens x h l = rw (one_more 18 (x / 10) (omega arith), le-ltb x 10 h) (omega (arith, length-append (digits_up_to 19 (x / 10)) (digit (x % 10) ∷ [])))
+-- one more than the highest power of ten in the number, or in 1 for 0
+pub decimal-long : (k x : ℕ) → k < 20 → 10 ^ k ≤ max x 1 → max x 1 < 10 * 10 ^ k → length (decimal x) ≡ k + 1
+unfolding decimal
+decimal-long k x few le less =
+    let p : 10 ^ suc k ≡ 10 ^ k * 10 = pow-suc 10 k in
+    omega (arith, ap length (spelled_by 19 k x (omega arith) (omega arith) (λ h. reaches k x h le)), last-long (suc k) x)
 
 either_short : (b : Bool) (xs ys : List ℕ) (m : ℕ) → length xs ≤ m → length ys ≤ m → length (if b then xs else ys) ≤ m
 either_short true xs ys m h k = h

@@ -14,9 +14,6 @@ use Rattle.sheet.specs.RuleSets.{newest}
 use Rattle.sheet.specs.Layout.{UnitRow, Sheet, byte, unit_row, sheet_of}
 use Rattle.sheet.specs.Inner.Fields.{unit_of}
 use Rattle.sheet.specs.Inner.Fits.{Fits}
-use Rattle.std.specs.Prelude.{IsOk}
-use Rattle.sheet.specs.Check.{checked}
-use Rattle.sheet.proofs.Views.{sheet_fits}
 use Rattle.sheet.proofs.Units.{ids-count, id-at, unit-at}
 use Rattle.month.specs.Month.{Month, bill_cents, settled, statement_of, month_of}
 use Rattle.month.proofs.Accepted.{fits-checked}
@@ -154,20 +151,16 @@ pub month_text : (rules : RuleSet) (s : Sheet) (statement : List ℕ) → statem
 unfolding month_of
 month_text rules s statement e = ap (λ (ns : List ℕ). first_line (month_of rules s) ++ unit_lines (month_of rules s).ids ns) e
 
-pub month_short : (bytes statement : List ℕ) → IsOk (checked 32 bytes) → AreBytes bytes → ((k : ℕ) → get_or statement k 0 < 4294967296) → statement ≡ statement_of newest (sheet_of bytes)
+pub month_short : (bytes statement : List ℕ) → Fits 32 bytes → AreBytes bytes → ((k : ℕ) → get_or statement k 0 < 4294967296) → statement ≡ statement_of newest (sheet_of bytes)
     → length (text_of (settled (month_of newest (sheet_of bytes)))) ≤ longest (settled (month_of newest (sheet_of bytes)))
 unfolding month_of
-month_short bytes statement passed low numbers e =
+month_short bytes statement fits low numbers e =
     let m = month_of newest (sheet_of bytes) in
     omega (
       arith,
       units_short m.ids statement (ids_fit bytes low) (λ k h. numbers k),
       ids-count bytes,
-      first_short (sheet_fits bytes passed),
+      first_short fits,
       ap length (month_text newest (sheet_of bytes) statement e),
       length-append (first_line m) (unit_lines m.ids statement),
     )
-
-pub month_longest : (bytes : List ℕ) → IsOk (checked 32 bytes) → longest (settled (month_of newest (sheet_of bytes))) ≤ 15889
-unfolding month_of
-month_longest bytes passed = omega (arith, (sheet_fits bytes passed).header.unit_count)

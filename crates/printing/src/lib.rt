@@ -2,6 +2,7 @@
 #![tactic(auto)]
 
 mod render;
+mod settled;
 mod sink;
 mod text;
 

@@ -1,10 +1,11 @@
 // The lines of a text, put into a sink.
-ghost use Rattle.std.specs.Prelude.{◌≡◌, map, ◌++◌, ◌*◌, ◌≤◌, length};
-ghost use Rattle.sheet.specs.Layout.{sheet_of};
+ghost use Rattle.std.specs.Prelude.{◌≡◌, map, ◌++◌, ◌≤◌, length};
 ghost use Rattle.printing.specs.Text.{decimal, line};
-ghost use Rattle.printing.specs.Printed.{refusal_line};
+ghost use Rattle.printing.specs.Printed.{text_of, refusal_line};
 ghost use Rattle.printing.specs.Inner.Lines.{first_line_of, unit_lines_of, month_lines};
+ghost use Rattle.printing.specs.Inner.Outcomes.{settled_in};
 
+use crate::settled::SettledMonth;
 use crate::sink::Sink;
 use sheet::{Refusal, Sheet, header, rows};
 
@@ -54,22 +55,30 @@ fn put_unit<S: Sink>(sink: &mut S, id: u32, numbers: &[u32])
     sink.put(b"\n");
 }
 
-fn put_units<S: Sink>(sink: &mut S, sheet: Sheet<'_>, statement: &[u32])
-    requires numbers { length statement.now ≡ 8 * (sheet_of sheet.bytes.now).unit_count }
-    requires room { length (unit_lines_of sheet.bytes.now statement.now) ≤ S.left sink.old }
-    ensures { S.took sink.old (unit_lines_of sheet.entry.bytes.now statement.now) sink.new }
+fn put_units<S: Sink>(sink: &mut S, month: SettledMonth<'_>)
+    requires { length (unit_lines_of month.sheet.bytes.now month.statement.now) ≤ S.left sink.old }
+    ensures { S.took sink.old (unit_lines_of month.entry.sheet.bytes.now month.entry.statement.now) sink.new }
 {
-    for (i, numbers) in statement.chunks_exact(8).enumerate() {
-        put_unit(sink, sheet.row(i).field(rows::Field::Id), numbers);
+    for (i, numbers) in month.statement.chunks_exact(8).enumerate() {
+        put_unit(sink, month.sheet.row(i).field(rows::Field::Id), numbers);
     }
 }
 
-// Of a sheet and its statement of 8n numbers.
-pub(crate) fn put_month<S: Sink>(sink: &mut S, sheet: Sheet<'_>, statement: &[u32])
-    requires numbers { length statement.now ≡ 8 * (sheet_of sheet.bytes.now).unit_count }
-    requires room { length (month_lines sheet.bytes.now statement.now) ≤ S.left sink.old }
-    ensures { S.took sink.old (month_lines sheet.entry.bytes.now statement.now) sink.new }
+fn put_month<S: Sink>(sink: &mut S, month: SettledMonth<'_>)
+    requires { length (month_lines month.sheet.bytes.now month.statement.now) ≤ S.left sink.old }
+    ensures { S.took sink.old (month_lines month.entry.sheet.bytes.now month.entry.statement.now) sink.new }
 {
-    put_first_line(sink, sheet);
-    put_units(sink, sheet, statement);
+    put_first_line(sink, month.sheet);
+    put_units(sink, month);
+}
+
+// The text of a settled or refused sheet.
+pub(crate) fn put_text<S: Sink>(sink: &mut S, outcome: Result<SettledMonth<'_>, Refusal>)
+    requires { length (text_of (settled_in outcome)) ≤ S.left sink.old }
+    ensures { S.took sink.old (text_of (settled_in outcome.entry)) sink.new }
+{
+    match outcome {
+        Ok(month) => put_month(sink, month),
+        Err(refusal) => put_refusal(sink, refusal),
+    }
 }

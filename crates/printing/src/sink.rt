@@ -26,17 +26,11 @@ pub(crate) struct Counter {
     pub(crate) len: usize,
 }
 
-// How many digits a number has.
+// How many digits a number has; 0 has one, as 1 has.
 fn decimal_len(x: u64) -> usize
     ensures { result ≡ length (decimal x) }
 {
-    let mut count = 1;
-    let mut rest = x;
-    while 10 <= rest {
-        rest /= 10;
-        count += 1;
-    }
-    count
+    x.max(1).ilog10() as usize + 1
 }
 
 impl Sink for Counter {
@@ -73,9 +67,8 @@ impl<'a> Sink for Writer<'a> {
     ghost took = { Wrote };
 
     fn put(&mut self, word: &[u8]) {
-        let start = self.at;
-        let end = start + word.len();
-        self.text[start..end].copy_from_slice(word);
+        let end = self.at + word.len();
+        self.text[self.at..end].copy_from_slice(word);
         self.at = end;
     }
 

@@ -2,4 +2,5 @@
 pub mod Numbers
 pub mod Division
 pub mod Heat
+pub mod Months
 pub mod Building

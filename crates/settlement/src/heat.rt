@@ -33,8 +33,8 @@ fn heat_by_meters<'a>(month: &'a Month<'a>, out: &mut [u32; 160])
     ensures { take (sheet_of_month month.now).unit_count out.new ≡ heat whole_wh month.now.basis.rules (sheet_of_month month.now) }
 {
     let sheet = month.basis.sheet;
-    for i in 0..sheet.unit_count() {
-        out[i] = sheet.row(i).field(rows::Field::Reading);
+    for (i, heat) in out[..sheet.unit_count()].iter_mut().enumerate() {
+        *heat = sheet.row(i).field(rows::Field::Reading);
     }
 }
 

@@ -1,10 +1,12 @@
 // A sheet settled, for any bytes.
 ghost use Rattle.std.specs.Prelude.{◌≡◌, ◌*◌, length};
 ghost use Rattle.sheet.specs.RuleSets.{newest};
+ghost use Rattle.sheet.specs.Layout.{sheet_of};
 ghost use Rattle.month.specs.Month.{statement_with};
 ghost use Rattle.weights.specs.Inner.Months.{sheet_of_month};
 ghost use Rattle.settlement.specs.Settle.{settle_answer, statement_after};
 ghost use Rattle.settlement.specs.Inner.Heat.{Charged};
+ghost use Rattle.settlement.specs.Inner.Months.{month_answer, after_month};
 
 use crate::bill;
 use crate::divide::Parts;
@@ -42,14 +44,14 @@ pub(crate) fn write_statement<'a>(
     bill::write_costs(n, bill, statement);
 }
 
-// A sheet that passes 1 to 7, by the rules: 8 to 12, then 13, then the statement.
+// A sheet by the rules: 8 to 12, then 13, then the statement.
 pub fn settle_checked(
     rules: RuleSet,
     sheet: Sheet<'_>,
     statement: &mut [u32],
 ) -> Result<(), Refusal>
-    ensures value { result ≡ settle_answer rules sheet.entry.bytes.now statement.old }
-    ensures statement_after { statement.new ≡ statement_after rules sheet.entry.bytes.now statement.old }
+    ensures value { result ≡ month_answer rules (sheet_of sheet.entry.bytes.now) statement.old }
+    ensures statement_after { statement.new ≡ after_month rules (sheet_of sheet.entry.bytes.now) statement.old }
 {
     let month = Month::measure(rules, sheet)?;
     if statement.len() != 8 * sheet.unit_count() {

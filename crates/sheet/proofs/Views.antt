@@ -1,4 +1,4 @@
--- What holds of a sheet that passes, as its view keeps it, and of a row's view. Assumes nothing.
+-- What holds of a sheet, as its view keeps it, and of a row's view. Assumes nothing.
 use mathlib.Core.Path.{◌≡◌, refl}
 use mathlib.Core.List.{List}
 use Prim.Native.Nat.{ℕ, ◌≤◌, ◌<◌}
@@ -21,12 +21,13 @@ pub accepted : (o : Outcome) → IsOk o → o ≡ Ok tt
 accepted (Ok u) h = refl
 accepted (Err r) h = absurd (let z : ◌≡◌ {A = ℕ} 0 1 = cc in omega arith)
 
-module _ (bytes : List ℕ) (passed : IsOk (checked 32 bytes)) where
-  pub sheet_fits : Fits 32 bytes
-  sheet_fits = fits 32 bytes (accepted _ passed)
+module _ (bytes : List ℕ) where
+  pub passed_fits : IsOk (checked 32 bytes) → Fits 32 bytes
+  passed_fits passed = fits 32 bytes (accepted _ passed)
 
-  pub has_header : 48 ≤ length bytes
-  has_header = omega (arith, sheet_fits.byte_count)
+  module _ (f : Fits 32 bytes) where
+    pub has_header : 48 ≤ length bytes
+    has_header = omega (arith, f.byte_count)
 
-  pub unit_fits : (i : ℕ) → i < (sheet_of bytes).unit_count → UnitFits (sheet_of bytes) (unit_of (sheet_of bytes) i)
-  unit_fits i h = each_at (UnitFits (sheet_of bytes)) (sheet_of bytes).units i _ sheet_fits.units (omega (arith, sheet_fits.units_length))
+    pub unit_fits : (i : ℕ) → i < (sheet_of bytes).unit_count → UnitFits (sheet_of bytes) (unit_of (sheet_of bytes) i)
+    unit_fits i h = each_at (UnitFits (sheet_of bytes)) (sheet_of bytes).units i _ f.units (omega (arith, f.units_length))

@@ -12,7 +12,7 @@ use Rattle.sheet.specs.declared.header.Field.TheVariants.{Month}
 use Rattle.sheet.specs.declared.header.TheConstants.{FIELDS as HEADER_FIELDS}
 use Rattle.sheet.specs.declared.rows.Field.{Field as RowField}
 use Rattle.sheet.specs.declared.rows.Field.TheVariants.{Id}
-use Rattle.sheet.specs.declared.rows.TheConstants.{FIELDS as ROW_FIELDS}
+use Rattle.sheet.specs.declared.tables.TheConstants.{ROW_FIELDS}
 use Rattle.sheet.specs.declared.ranges.Range.{Range}
 use Rattle.sheet.specs.Refusals.{Outcome, Rule, ◌⇒◌, first_refusal}
 use Rattle.std.specs.Prelude.{Ok, Err}
@@ -21,13 +21,13 @@ use Rattle.sheet.specs.Tests.{Each}
 use Rattle.sheet.specs.Layout.{UnitRow, sheet_of}
 use Rattle.sheet.specs.Inner.Fields.{unit_of, id_before, row_field, header_field}
 use Rattle.sheet.specs.Inner.FieldRanges.{header_range, header_offset, value_of, fixed_range, allowed, row_ranges, refusal_by}
-use Rattle.sheet.specs.Check.{HeaderTest, RowTest, fixed, ◌allowing◌, passes, entry, ◌within◌, header_tests, header_rule, row_tests, field_rules, row_rules, not_above}
+use Rattle.sheet.specs.Check.{HeaderTest, RowTest, fixed, ◌allowing◌, passes, entry, ◌to◌, ◌within◌, header_tests, header_rule, row_tests, field_rules, row_rules, not_above}
 use Rattle.sheet.proofs.Rules.{rules-more, rules_fault, rules-end}
 use Rattle.sheet.proofs.Narrow.{Narrow, narrow}
 use Rattle.sheet.proofs.Units.{units-from, units-count}
 
 -- within a list the default doesn't count
-any_default : (xs : List ℕ) (k d e : ℕ) → k < length xs → get_or xs k d ≡ get_or xs k e
+pub any_default : (xs : List ℕ) (k d e : ℕ) → k < length xs → get_or xs k d ≡ get_or xs k e
 any_default [] k d e h = absurd (omega arith)
 any_default (x ∷ xs) zero d e h = refl
 any_default (x ∷ xs) (suc k) d e h = any_default xs k d e (omega arith)
@@ -80,8 +80,19 @@ module _ (bytes : List ℕ) where
   header-end k h = rules-end (map header_rule (header_tests (sheet_of bytes))) k (omega (arith, header-length))
 
 -- ---- a row's fields from k on, and the rules behind them
+-- the field of a turn, and its fixed range
+abbrev pub table_at : ℕ → RowField × Range
+table_at k = get_or ROW_FIELDS k (Id, 0 to 0)
+
 abbrev pub row_field_at : ℕ → RowField
-row_field_at k = get_or ROW_FIELDS k Id
+row_field_at k = (table_at k).0
+
+field_in_table : (k : ℕ) → row_field_at k ≡ get_or (map (λ p. p.0) ROW_FIELDS) k Id
+field_in_table k = sym (get_or-map (λ (p : RowField × Range). p.0) ROW_FIELDS k (Id, 0 to 0))
+
+pub range_in_table : (k : ℕ) → (table_at k).1 ≡ entry row_ranges k
+unfolding row_tests
+range_in_table k = sym (get_or-map (λ (p : RowField × Range). p.1) ROW_FIELDS k (Id, 0 to 0))
 
 module _ (i : ℕ) (behind : List Rule) where
   abbrev fields_of : List RowTest → Outcome
@@ -136,7 +147,10 @@ module _ (bytes : List ℕ) (i : ℕ) where
 
   value-at : (k : ℕ) → k < 10 → row_field (unit_of (sheet_of bytes) i) (row_field_at k) ≡ get_or (map value_of tests_of) k 0
   unfolding row_tests
-  value-at k h = sym (get_or-map (row_field (unit_of (sheet_of bytes) i)) ROW_FIELDS k Id) ∙ any_default (map (row_field (unit_of (sheet_of bytes) i)) ROW_FIELDS) k (row_field (unit_of (sheet_of bytes) i) Id) 0 h
+  value-at k h =
+      let u = unit_of (sheet_of bytes) i in
+      let fields = map (λ (p : RowField × Range). p.0) ROW_FIELDS in
+      ap (row_field u) (field_in_table k) ∙ sym (get_or-map (row_field u) fields k Id) ∙ any_default (map (row_field u) fields) k (row_field u Id) 0 h
 
   fixed-at : map fixed_range tests_of ≡ row_ranges
   unfolding row_tests

@@ -4,4 +4,5 @@ pub mod Fields
 pub mod FieldRanges
 pub mod Fits
 pub mod Places
+pub mod Rows
 pub mod Views

@@ -8,7 +8,8 @@ ghost use Rattle.sheet.specs.Check.{checked, row_rules, not_above, same_list, sh
 
 use crate::header::header_field;
 use crate::refusal::Refusal;
-use crate::rows::{FIELDS, Field, unit_field};
+use crate::rows::{Field, unit_field};
+use crate::tables::ROW_FIELDS;
 use crate::{bytes, header, ranges};
 
 const MAGIC: [u8; 4] = *b"HCS\0";
@@ -32,11 +33,11 @@ fn check_rows(s: &[u8], n: usize) -> Result<(), Refusal>
     let limits = ranges::row_limits(s);
     let mut found = Ok(());
     'rows: for i in 0..n {
-        let ranges = ranges::row_ranges(s, i, limits);
-        for (k, &field) in FIELDS.iter().enumerate() {
+        let allowed = ranges::row_ranges(s, i, limits);
+        for (k, &(field, fixed)) in ROW_FIELDS.iter().enumerate() {
             let x = unit_field(s, i, field);
-            if !ranges[k].contains(x) {
-                found = Err(ranges::field_refusal(x, k, i as u32));
+            if !allowed[k].contains(x) {
+                found = Err(ranges::field_refusal(x, fixed, i as u32));
                 break 'rows;
             }
         }
@@ -48,8 +49,8 @@ fn check_rows(s: &[u8], n: usize) -> Result<(), Refusal>
     found
 }
 
-// Where a unit takes `width` bytes after the header.
-fn check(s: &[u8], width: usize) -> Result<(), Refusal>
+// Where a unit takes `width` bytes after the header: 32 in a sheet alone; 64 in a sheet with its statement behind it, as an archive record holds them.
+pub(crate) fn check(s: &[u8], width: usize) -> Result<(), Refusal>
     requires { (32 ≤ width) × (width ≤ 64) }
     ensures { result ≡ checked width s.now }
 {
@@ -68,18 +69,4 @@ fn check(s: &[u8], width: usize) -> Result<(), Refusal>
         return Err(Refusal::WrongLength);
     }
     check_rows(s, n)
-}
-
-// A sheet alone.
-pub(crate) fn check_sheet(s: &[u8]) -> Result<(), Refusal>
-    ensures { result ≡ checked 32 s.now }
-{
-    check(s, 32)
-}
-
-// A sheet and its statement, as an archive record holds them: 32 bytes more a unit.
-pub(crate) fn check_record_part(s: &[u8]) -> Result<(), Refusal>
-    ensures { result ≡ checked 64 s.now }
-{
-    check(s, 64)
 }

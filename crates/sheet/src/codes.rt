@@ -6,7 +6,7 @@ ghost use Rattle.sheet.specs.Inner.Codes.{model_code, DecodesModel, DecodesSourc
 #[derive(Clone, Copy)]
 pub struct UnknownCode(pub u32);
 
-#[derive(Clone, Copy)]
+#[derive(Clone, Copy, PartialEq, Eq)]
 pub enum Model {
     ByLoad,
     ByArea,
@@ -45,7 +45,7 @@ impl Model {
 }
 
 // Where the hot water's heat is known from.
-#[derive(Clone, Copy)]
+#[derive(Clone, Copy, PartialEq, Eq)]
 pub enum WaterSource {
     NoWater,
     Meter,
@@ -69,7 +69,7 @@ impl TryFrom<u32> for WaterSource {
     }
 }
 
-#[derive(Clone, Copy)]
+#[derive(Clone, Copy, PartialEq, Eq)]
 pub enum Status {
     Read,
     NoDevice,
@@ -95,7 +95,7 @@ impl TryFrom<u32> for Status {
     }
 }
 
-#[derive(Clone, Copy)]
+#[derive(Clone, Copy, PartialEq, Eq)]
 pub enum WaterClass {
     NoClass,
     ByVolume,

@@ -115,13 +115,11 @@ pub fn row_ranges(s: &[u8], i: usize, limits: RowLimits) -> [Range; 10]
     ]
 }
 
-// x stands in field k of a row after the id and isn't allowed there: 6 outside the field's fixed range, else 20.
-pub fn field_refusal(x: u32, k: usize, row: u32) -> Refusal
-    requires { k < 10 }
-    ensures { result ≡ refusal_by (passes (x within entry row_ranges k)) row }
+// x stands in a field of a row and isn't allowed there: 6 outside the field's fixed range, else 20.
+pub fn field_refusal(x: u32, fixed: Range, row: u32) -> Refusal
+    ensures { result ≡ refusal_by (passes (x within fixed)) row }
 {
-    let table = tables::ROW_FIELDS;
-    if table[k].contains(x) {
+    if fixed.contains(x) {
         Refusal::FieldConflict(row)
     } else {
         Refusal::RowField(row)

@@ -21,8 +21,8 @@ pub enum Field {
     Reserved,
 }
 
-// Those after the id.
-pub(crate) const FIELDS: [Field; 10] = [
+const FIELDS: [Field; 11] = [
+    Field::Id,
     Field::Status,
     Field::WaterClass,
     Field::LocationFactor,
@@ -56,10 +56,13 @@ pub(crate) fn field_at(s: &[u8], at: usize, field: Field) -> u32
     }
 }
 
-// The same of any bytes: 0 where the row isn't wholly inside.
-pub fn row_field(s: &[u8], at: usize, field: Field) -> u32
-    ensures { result ≡ field_at s.now at field }
+// Field k of any bytes: 0 where the row isn't wholly inside or there is no field k.
+pub fn row_field(s: &[u8], at: usize, k: usize) -> u32
+    ensures { result ≡ field_at s.now at k }
 {
+    let Some(&field) = FIELDS.get(k) else {
+        return 0;
+    };
     if s.len() < 32 {
         return 0;
     }

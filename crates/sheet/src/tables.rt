@@ -1,5 +1,6 @@
 // Lowest and highest: of a row's fields, and by model, hot-water source or water class (document 01, "The sheet"; 2026-03).
 use crate::ranges::Range;
+use crate::rows::Field;
 
 pub const ZERO: Range = Range { low: 0, high: 0 };
 
@@ -64,18 +65,18 @@ const UNIT_LITRES: Range = Range {
 
 const HOUSEHOLD: Range = Range { low: 0, high: 50 };
 
-// The fixed ranges of a row's fields after the id, in layout order.
-pub const ROW_FIELDS: [Range; 10] = [
-    ANY_STATUS,
-    ANY_CLASS,
-    LOCATION_FACTOR,
-    HEATED_AREA,
-    RISER_SURFACE,
-    HEAT_LOAD,
-    METERED_WH,
-    UNIT_LITRES,
-    HOUSEHOLD,
-    ZERO,
+// A row's fields after the id, in layout order, each with its fixed range.
+pub const ROW_FIELDS: [(Field, Range); 10] = [
+    (Field::Status, ANY_STATUS),
+    (Field::WaterClass, ANY_CLASS),
+    (Field::LocationFactor, LOCATION_FACTOR),
+    (Field::HeatedArea, HEATED_AREA),
+    (Field::RiserSurface, RISER_SURFACE),
+    (Field::HeatLoad, HEAT_LOAD),
+    (Field::Reading, METERED_WH),
+    (Field::Litres, UNIT_LITRES),
+    (Field::Persons, HOUSEHOLD),
+    (Field::Reserved, ZERO),
 ];
 
 // By model, 1 to 5; entry 0 is no model.

@@ -1,19 +1,19 @@
-// A sheet that passes 1 to 7, and the small view through which one of its rows is looked at.
-ghost use Rattle.std.specs.Prelude.{◌≡◌, ◌+◌, ◌*◌, ◌<◌, IsOk};
+// A sheet, and the small view through which one of its rows is looked at.
+ghost use Rattle.std.specs.Prelude.{◌≡◌, ◌+◌, ◌*◌, ◌<◌};
 ghost use Rattle.sheet.specs.Layout.{sheet_of};
-ghost use Rattle.sheet.specs.Check.{checked};
 ghost use Rattle.sheet.specs.Inner.Fields.{row_place};
+ghost use Rattle.sheet.specs.Inner.Fits.{Fits, Fits-prop};
 
-use crate::check::{check_record_part, check_sheet};
+use crate::check::check;
 use crate::codes::{Model, Status, WaterClass, WaterSource};
 use crate::refusal::Refusal;
 use crate::{header, rows};
 
-// The sheet's bytes.
+// Bytes that have all that 1 to 7 ask for but the mark.
 #[derive(Clone, Copy)]
 pub struct Sheet<'a> {
     pub bytes: &'a [u8],
-    pub ghost passed: { IsOk (checked 32 bytes.now) },
+    pub ghost fits: { Fits 32 bytes.now } by { Fits-prop 32 bytes.now },
 }
 
 // Where a row of the sheet starts in its bytes.
@@ -28,6 +28,7 @@ pub struct RowView<'a> {
 impl<'a> Sheet<'a> {
     ghost use Rattle.std.specs.Prelude.{◌≤◌, IfOk, length, take, drop};
     ghost use Rattle.sheet.specs.Refusals.{outcome_of};
+    ghost use Rattle.sheet.specs.Check.{checked};
     ghost use Rattle.sheet.specs.Inner.Codes.{model_code, source_code};
     ghost use Rattle.sheet.specs.Inner.Fields.{header_field};
 
@@ -36,7 +37,7 @@ impl<'a> Sheet<'a> {
         ensures answer { outcome_of result ≡ checked 32 bytes.now }
         ensures sheet { IfOk result (λ sheet. sheet.bytes ≡ bytes.entry) }
     {
-        check_sheet(bytes)?;
+        check(bytes, 32)?;
         Ok(Sheet { bytes })
     }
 
@@ -46,7 +47,7 @@ impl<'a> Sheet<'a> {
         ensures sheet { IfOk result (λ parts. parts.0.bytes.now ≡ take (48 + 32 * (sheet_of body.now).unit_count) body.now) }
         ensures statement { IfOk result (λ parts. parts.1.now ≡ drop (48 + 32 * (sheet_of body.now).unit_count) body.now) }
     {
-        check_record_part(body)?;
+        check(body, 64)?;
         let end = 48 + 32 * header::header_field(body, header::Field::UnitCount) as usize;
         let (bytes, statement) = body.split_at(end);
         Ok((Sheet { bytes }, statement))

@@ -15,10 +15,8 @@ impl Wh {
     pub fn of(number: u64) -> Option<Wh>
         ensures { result ≡ amount_of number }
     {
-        if number <= u64::from(Wh::MAX.0) {
-            return Some(Wh(number as u32));
-        }
-        None
+        let number = u32::try_from(number).ok()?;
+        (number <= Wh::MAX.0).then_some(Wh(number))
     }
 
     pub fn plus(self, other: Wh) -> Option<Wh>

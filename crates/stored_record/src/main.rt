@@ -8,6 +8,9 @@ const RECORD: usize = 248;
 
 const ALL: usize = 3 * RECORD;
 
+// A longer input is told by one byte more.
+const LONGEST: usize = ALL + 1;
+
 fn print_record(rt: &impl Print, record: &[u8]) -> io::Result<()> {
     console::answer(rt, archive::check(record))?;
     let part = archive::sheet_of(record);
@@ -27,7 +30,5 @@ fn print_records(rt: &impl Print, bytes: &[u8]) -> io::Result<()> {
 }
 
 fn main(rt: HostRuntime) -> io::Result<()> {
-    let mut buffer = [0u8; ALL + 1];
-    let n = console::read_full(&rt, &mut buffer)?;
-    print_records(&rt, &buffer[..n])
+    console::with_input::<LONGEST, _>(&rt, LONGEST, |bytes| print_records(&rt, bytes))
 }

@@ -7,9 +7,7 @@ ghost use Rattle.month.specs.Month.{hot_water_wh, month_rules};
 ghost use Rattle.weights.specs.Inner.Metered.{metered_heat};
 
 use crate::basis::Basis;
-use crate::hot_water::hot_water;
-use crate::metered::metered_heat;
-use crate::refusals::check_month;
+use crate::refusals::Figures;
 use sheet::{Refusal, RuleSet, Sheet, Wh};
 
 // What it is settled by, H and C.
@@ -26,10 +24,7 @@ pub struct Month<'a> {
 fn number_of(wh: Option<Wh>) -> u64
     ensures { IfSome wh (λ w. result ≡ wh_in w) }
 {
-    match wh {
-        Some(wh) => wh.number(),
-        None => 0,
-    }
+    wh.map_or(0, |wh| wh.number())
 }
 
 impl<'a> Month<'a> {
@@ -41,14 +36,12 @@ impl<'a> Month<'a> {
         ensures answer { outcome_of result ≡ first_refusal (month_rules (sheet_of sheet.entry.bytes.now)) }
         ensures month { IfOk result (λ m. (m.basis.rules ≡ rules) × (m.basis.sheet.bytes ≡ sheet.entry.bytes)) }
     {
-        let basis = Basis::of(rules, sheet);
-        let hot_water = hot_water(sheet);
-        let metered = metered_heat(&basis);
-        check_month(&basis, hot_water, metered)?;
+        let figures = Figures::of(Basis::of(rules, sheet));
+        figures.check()?;
         Ok(Month {
-            basis,
-            hot_water,
-            metered: number_of(metered),
+            basis: figures.basis,
+            hot_water: figures.hot_water,
+            metered: number_of(figures.metered),
         })
     }
 }

@@ -25,10 +25,6 @@ pub struct Unit<'a> {
 }
 
 impl<'a> Basis<'a> {
-    ghost use Rattle.std.specs.Prelude.{◌<◌};
-    ghost use Rattle.sheet.specs.Inner.Fields.{unit_of};
-    ghost use Rattle.sheet.specs.Inner.Views.{unit_in};
-
     pub fn of(rules: RuleSet, sheet: Sheet<'a>) -> Basis<'a>
         ensures { (result.rules ≡ rules) × (result.sheet.bytes ≡ sheet.entry.bytes) }
     {
@@ -36,18 +32,6 @@ impl<'a> Basis<'a> {
             rules,
             sheet,
             totals: Totals::of_sheet(sheet),
-        }
-    }
-
-    // Unit i, from 0.
-    pub fn unit(&'a self, i: usize) -> Unit<'a>
-        requires { i < (sheet_of self.now.sheet.bytes.now).unit_count }
-        ensures basis { result.basis.now ≡ self.now }
-        ensures unit { unit_in result.row ≡ unit_of (sheet_of self.now.sheet.bytes.now) i }
-    {
-        Unit {
-            basis: self,
-            row: self.sheet.row(i),
         }
     }
 }

@@ -51,10 +51,9 @@ pub fn gather<'a>(basis: &'a Basis<'a>, by: By, out: &mut [u64; 160]) -> usize
     ensures weights { take result out.new ≡ weights_by basis.now.rules by (sheet_of basis.now.sheet.bytes.now) }
 {
     let mut m = 0;
-    for i in 0..basis.sheet.unit_count() {
-        let unit = basis.unit(i);
-        out[m] = weight(unit, by);
-        m += usize::from(part(unit.row, by));
+    for row in basis.sheet.rows() {
+        out[m] = weight(Unit { basis, row }, by);
+        m += usize::from(part(row, by));
     }
     m
 }

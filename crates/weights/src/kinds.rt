@@ -8,7 +8,7 @@ use sheet::{RowView, Status, WaterClass};
 pub fn is_read(row: RowView<'_>) -> bool
     ensures { result ≡ is_read (unit_in row.entry) }
 {
-    matches!(row.status(), Status::Read)
+    row.status() == Status::Read
 }
 
 // The factor for unmetered units applies.
@@ -21,11 +21,11 @@ pub(crate) fn has_no_device(row: RowView<'_>) -> bool
 pub(crate) fn is_by_volume(row: RowView<'_>) -> bool
     ensures { result ≡ eqb (unit_in row.entry).water_class 1 }
 {
-    matches!(row.water_class(), WaterClass::ByVolume)
+    row.water_class() == WaterClass::ByVolume
 }
 
 pub(crate) fn is_by_persons(row: RowView<'_>) -> bool
     ensures { result ≡ eqb (unit_in row.entry).water_class 2 }
 {
-    matches!(row.water_class(), WaterClass::ByPersons)
+    row.water_class() == WaterClass::ByPersons
 }

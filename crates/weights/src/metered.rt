@@ -24,8 +24,8 @@ fn metered_sum(sheet: Sheet<'_>) -> Option<Wh>
     ensures { result ≡ amount_of (metered_sum (sheet_of sheet.entry.bytes.now)) }
 {
     let mut sum = Wh::ZERO;
-    for i in 0..sheet.unit_count() {
-        let reading = Wh::of(u64::from(sheet.row(i).field(Field::Reading)))?;
+    for row in sheet.rows() {
+        let reading = Wh::of(u64::from(row.field(Field::Reading)))?;
         sum = sum.plus(reading)?;
     }
     Some(sum)

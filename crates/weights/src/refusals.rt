@@ -1,5 +1,6 @@
 // Refusals 8 to 12 (document 01, "Refused sheets and calls").
 ghost use Rattle.std.specs.Prelude.{◌≡◌, ◌&&◌, [], ◌∷◌, ◌*◌, ◌≤◌, leb, ltb, eqb, length};
+ghost use Rattle.std.specs.Coded.{Coded-set};
 ghost use Rattle.apportion.specs.Shares.{sum};
 ghost use Rattle.sheet.specs.Tests.{any};
 ghost use Rattle.sheet.specs.Layout.{sheet_of};
@@ -10,9 +11,20 @@ ghost use Rattle.month.specs.Weights.{read_units, all_metered, metered_sum, has_
 ghost use Rattle.month.specs.Month.{hot_water_wh, space_heat_wh, zero_water_divisor, zero_divisor, month_rules};
 
 use crate::basis::Basis;
-use crate::metered::all_metered;
+use crate::hot_water::hot_water;
+use crate::metered::{all_metered, metered_heat};
 use sheet::header::Field;
 use sheet::{Model, Refusal, Wh};
+
+// What a month is settled by, H and C; there is no C where the meters' sum is past the upper end.
+#[derive(Clone, Copy)]
+pub(crate) struct Figures<'a> {
+    pub basis: Basis<'a>,
+    pub hot_water: u64,
+    pub metered: Option<Wh>,
+    pub ghost water_is: { hot_water ≡ hot_water_wh (sheet_of basis.sheet.bytes.now) },
+    pub ghost metered_is: { metered ≡ amount_of (metered_heat (sheet_of basis.sheet.bytes.now)) } by { Coded-set metered-code metered (amount_of (metered_heat (sheet_of basis.sheet.bytes.now))) },
+}
 
 // Something is needed, and there is none.
 fn lacks(need: u64, whole: u64) -> bool
@@ -44,31 +56,11 @@ fn zero_heat_divisor(basis: &Basis<'_>) -> bool
     }
 }
 
-// 9.
-fn zero_divisor(basis: &Basis<'_>, h: u64) -> bool
-    requires { h ≡ hot_water_wh (sheet_of basis.now.sheet.bytes.now) }
-    ensures { result ≡ zero_divisor (sheet_of basis.now.sheet.bytes.now) }
-{
-    (0 < h) & zero_water_divisor(basis) | zero_heat_divisor(basis)
-}
-
 // 10.
 fn no_readings(basis: &Basis<'_>) -> bool
     ensures { result ≡ (leb 3 (sheet_of basis.now.sheet.bytes.now).model && eqb (length (read_units (sheet_of basis.now.sheet.bytes.now))) 0) }
 {
     basis.sheet.model().has_readings() && basis.totals.read == 0
-}
-
-// 11.
-fn meters_exceed(basis: &Basis<'_>, h: u64, c: Option<Wh>) -> bool
-    requires { (h ≡ hot_water_wh (sheet_of basis.now.sheet.bytes.now)) × (h ≤ (sheet_of basis.now.sheet.bytes.now).shared_meter) × (c ≡ amount_of (metered_heat (sheet_of basis.now.sheet.bytes.now))) }
-    ensures { result ≡ (all_metered (sheet_of basis.now.sheet.bytes.now) && ltb (space_heat_wh (sheet_of basis.now.sheet.bytes.now)) (metered_sum (sheet_of basis.now.sheet.bytes.now))) }
-{
-    let space_heat = u64::from(basis.sheet.header(Field::SharedMeter)) - h;
-    match c {
-        Some(metered) => space_heat < metered.number(),
-        None => true,
-    }
 }
 
 // 12.
@@ -79,25 +71,55 @@ fn pool_exceeded(basis: &Basis<'_>) -> bool
     basis.sheet.model().has_readings() & !all_metered(basis) & (10000 * t.area < t.unread)
 }
 
-// 8 to 12, in this order.
-pub(crate) fn check_month(basis: &Basis<'_>, h: u64, c: Option<Wh>) -> Result<(), Refusal>
-    requires { (h ≡ hot_water_wh (sheet_of basis.now.sheet.bytes.now)) × (c ≡ amount_of (metered_heat (sheet_of basis.now.sheet.bytes.now))) }
-    ensures { result ≡ first_refusal (month_rules (sheet_of basis.now.sheet.bytes.now)) }
-{
-    if u64::from(basis.sheet.header(Field::SharedMeter)) < h {
-        return Err(Refusal::HotWaterExceedsMeter);
+impl<'a> Figures<'a> {
+    pub(crate) fn of(basis: Basis<'a>) -> Figures<'a>
+        ensures { result.basis ≡ basis.entry }
+    {
+        Figures {
+            basis,
+            hot_water: hot_water(basis.sheet),
+            metered: metered_heat(&basis),
+        }
     }
-    if zero_divisor(basis, h) {
-        return Err(Refusal::ZeroDivisor);
+
+    // 9.
+    fn zero_divisor(&self) -> bool
+        ensures { result ≡ zero_divisor (sheet_of self.now.basis.sheet.bytes.now) }
+    {
+        (0 < self.hot_water) & zero_water_divisor(&self.basis) | zero_heat_divisor(&self.basis)
     }
-    if no_readings(basis) {
-        return Err(Refusal::NoReadings);
+
+    // 11.
+    fn meters_exceed(&self) -> bool
+        requires { self.now.hot_water ≤ (sheet_of self.now.basis.sheet.bytes.now).shared_meter }
+        ensures { result ≡ (all_metered (sheet_of self.now.basis.sheet.bytes.now) && ltb (space_heat_wh (sheet_of self.now.basis.sheet.bytes.now)) (metered_sum (sheet_of self.now.basis.sheet.bytes.now))) }
+    {
+        let space_heat = u64::from(self.basis.sheet.header(Field::SharedMeter)) - self.hot_water;
+        match self.metered {
+            Some(metered) => space_heat < metered.number(),
+            None => true,
+        }
     }
-    if meters_exceed(basis, h, c) {
-        return Err(Refusal::MetersExceedHeat);
+
+    // 8 to 12, in this order.
+    pub(crate) fn check(&self) -> Result<(), Refusal>
+        ensures { result ≡ first_refusal (month_rules (sheet_of self.now.basis.sheet.bytes.now)) }
+    {
+        if u64::from(self.basis.sheet.header(Field::SharedMeter)) < self.hot_water {
+            return Err(Refusal::HotWaterExceedsMeter);
+        }
+        if self.zero_divisor() {
+            return Err(Refusal::ZeroDivisor);
+        }
+        if no_readings(&self.basis) {
+            return Err(Refusal::NoReadings);
+        }
+        if self.meters_exceed() {
+            return Err(Refusal::MetersExceedHeat);
+        }
+        if pool_exceeded(&self.basis) {
+            return Err(Refusal::UnmeteredExceedsHeat);
+        }
+        Ok(())
     }
-    if pool_exceeded(basis) {
-        return Err(Refusal::UnmeteredExceedsHeat);
-    }
-    Ok(())
 }

@@ -10,7 +10,7 @@ use sheet::rows::Field;
 use sheet::{RowView, Sheet};
 
 // P, Σq, n1, n2, L, N2, persons, the weight of the units not read, how many are read, A, S, B.
-#[derive(Clone, Copy)]
+#[derive(Clone, Copy, Default)]
 pub struct Totals {
     pub area: u64,
     pub load: u64,
@@ -25,21 +25,6 @@ pub struct Totals {
     pub surface: u64,
     pub readings: u64,
 }
-
-const NOTHING: Totals = Totals {
-    area: 0,
-    load: 0,
-    class1: 0,
-    class2: 0,
-    litres: 0,
-    persons2: 0,
-    persons: 0,
-    unread: 0,
-    read: 0,
-    readarea: 0,
-    surface: 0,
-    readings: 0,
-};
 
 pub(crate) fn only_if(b: bool, x: u64) -> u64
     ensures { result ≡ only_if b x }
@@ -95,9 +80,9 @@ impl Totals {
     pub fn of_sheet(sheet: Sheet<'_>) -> Totals
         ensures { result ≡ totals_in (sheet_of sheet.entry.bytes.now) }
     {
-        let mut t = NOTHING;
-        for i in 0..sheet.unit_count() {
-            t = plus(t, of_row(sheet.row(i)));
+        let mut t = Totals::default();
+        for row in sheet.rows() {
+            t = plus(t, of_row(row));
         }
         t
     }

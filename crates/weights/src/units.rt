@@ -2,8 +2,7 @@
 ghost use Rattle.std.specs.Prelude.{◌≡◌, ◌&&◌, ◌+◌, ◌*◌, ◌-◌, ◌≤◌, ltb, eqb, if◌then◌else◌};
 ghost use Rattle.sheet.specs.RuleSets.{limits_risers};
 ghost use Rattle.sheet.specs.Inner.Views.{sheet_in, unit_in};
-ghost use Rattle.month.specs.Weights.{limited, area_weight, surface_weight, read_weight, unread_weight, water_weight, common_water_weight};
-ghost use Rattle.weights.specs.Inner.Limits.{weight_by};
+ghost use Rattle.month.specs.Weights.{limited, r_by, area_weight, surface_weight, read_weight, unread_weight, water_weight, common_water_weight};
 
 use crate::basis::Unit;
 use crate::kinds::{has_no_device, is_by_persons, is_by_volume};
@@ -31,14 +30,11 @@ fn mixed(v: u64, x: u64, a: u64, y: u64, b: u64) -> u64
     (100 - v) * x * a + v * y * b
 }
 
-// Articles 8 (6), (7) and 9 (6), (7), where there are limits.
-fn limit_if(limits: bool, base: u64, r: u64) -> u64
+// Articles 8 (6), (7) and 9 (6), (7).
+fn limited(base: u64, r: u64) -> u64
     requires { (base ≤ 80000000000) × (r ≤ 16000000000000) }
-    ensures { (result ≡ (if limits then limited base r else r)) × (result ≤ 24000000000000) }
+    ensures { (result ≡ limited base r) × (result ≤ 24000000000000) }
 {
-    if !limits {
-        return r;
-    }
     r.min(300 * base).max(40 * base)
 }
 
@@ -53,7 +49,7 @@ fn factor_weight(row: RowView<'_>) -> u64
     }
 }
 
-// Step 4, model 4 (2026-01): where the rules limit risers and the unit has some.
+// Where the rules limit risers and the unit has some (2026-01).
 fn riser_limits(rules: RuleSet, surface: u64) -> bool
     ensures { result ≡ (limits_risers rules && ltb 0 surface) }
 {
@@ -78,44 +74,56 @@ pub(crate) fn common_water_weight(row: RowView<'_>) -> u64
     u64::from(row.field(Field::Persons))
 }
 
-impl<'a> Unit<'a> {
-    // Step 4, models 3 and 4: r by the unit's own p or s and the sum of it over the read units, limited or not, then × KF.
-    fn weight_by(self, own: u64, whole: u64, limits: bool) -> u64
-        requires { ((sheet_in self.row).model ≤ 4) × (own ≤ 10000) × (whole ≤ 1600000) }
-        ensures { result ≡ weight_by limits (sheet_in self.entry.row) (unit_in self.entry.row) own whole }
+// A unit of a sheet of model 3 or 4, which has readings of heat cost allocators.
+#[derive(Clone, Copy)]
+struct AllocatorUnit<'a> {
+    unit: Unit<'a>,
+    ghost allocators: { (sheet_in unit.row).model ≤ 4 },
+}
+
+impl<'a> AllocatorUnit<'a> {
+    // Step 4: r by the unit's own p or s and the sum of it over the read units.
+    fn r_by(self, own: u64, whole: u64) -> u64
+        requires { (own ≤ 10000) × (whole ≤ 1600000) }
+        ensures { (result ≡ r_by (sheet_in self.entry.unit.row) (unit_in self.entry.unit.row) own whole) × (result ≤ 16000000000000) }
     {
-        let row = self.row;
-        let readings = self.basis.totals.readings;
-        let v = u64::from(row.sheet.header(header::Field::BasePercent));
-        let r = mixed(
-            v,
+        let row = self.unit.row;
+        mixed(
+            u64::from(row.sheet.header(header::Field::BasePercent)),
             u64::from(row.field(Field::Reading)),
             whole,
             own,
-            readings,
-        );
-        limit_if(limits, own * readings, r) * u64::from(row.field(Field::LocationFactor))
+            self.unit.basis.totals.readings,
+        )
     }
 
     // Step 4, model 3.
     fn area_weight(self) -> u64
-        requires { (sheet_in self.row).model ≤ 4 }
-        ensures { result ≡ area_weight (sheet_in self.entry.row) (unit_in self.entry.row) }
+        ensures { result ≡ area_weight (sheet_in self.entry.unit.row) (unit_in self.entry.unit.row) }
     {
-        let area = u64::from(self.row.field(Field::HeatedArea));
-        self.weight_by(area, self.basis.totals.readarea, true)
+        let area = u64::from(self.unit.row.field(Field::HeatedArea));
+        let factor = u64::from(self.unit.row.field(Field::LocationFactor));
+        let totals = self.unit.basis.totals;
+        let r = self.r_by(area, totals.readarea);
+        limited(area * totals.readings, r) * factor
     }
 
     // Step 4, model 4.
     fn surface_weight(self) -> u64
-        requires { (sheet_in self.row).model ≤ 4 }
-        ensures { result ≡ surface_weight self.entry.basis.now.rules (sheet_in self.entry.row) (unit_in self.entry.row) }
+        ensures { result ≡ surface_weight self.entry.unit.basis.now.rules (sheet_in self.entry.unit.row) (unit_in self.entry.unit.row) }
     {
-        let surface = u64::from(self.row.field(Field::RiserSurface));
-        let limits = riser_limits(self.basis.rules, surface);
-        self.weight_by(surface, self.basis.totals.surface, limits)
+        let surface = u64::from(self.unit.row.field(Field::RiserSurface));
+        let factor = u64::from(self.unit.row.field(Field::LocationFactor));
+        let totals = self.unit.basis.totals;
+        let r = self.r_by(surface, totals.surface);
+        if !riser_limits(self.unit.basis.rules, surface) {
+            return r * factor;
+        }
+        limited(surface * totals.readings, r) * factor
     }
+}
 
+impl<'a> Unit<'a> {
     // Step 4.
     pub(crate) fn read_weight(self) -> u64
         ensures { result ≡ read_weight self.entry.basis.now.rules (sheet_in self.entry.row) (unit_in self.entry.row) }
@@ -125,8 +133,8 @@ impl<'a> Unit<'a> {
             return factor_weight(row);
         }
         match row.sheet.model() {
-            Model::ByAllocatorsAndArea => self.area_weight(),
-            Model::ByAllocatorsAndRisers => self.surface_weight(),
+            Model::ByAllocatorsAndArea => AllocatorUnit { unit: self }.area_weight(),
+            Model::ByAllocatorsAndRisers => AllocatorUnit { unit: self }.surface_weight(),
             _ => u64::from(row.field(Field::Reading)),
         }
     }

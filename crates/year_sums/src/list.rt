@@ -61,7 +61,6 @@ fn past_an_end(sum: u64, old: u32, new: u32) -> bool
 
 // 19 by the numbers, place by place.
 fn some_past_an_end(sums: &[u64], old: &[u32], new: &[u32]) -> bool
-    requires { SameLength sums.now old.now new.now }
     ensures { result ≡ some_past_an_end sums.now old.now new.now }
 {
     sums.iter()

@@ -1,34 +1,29 @@
 -- Refusal 16: two lists of ids, item by item, and the book's building. Assumes nothing.
-use mathlib.Core.Path.{◌≡◌, refl, sym, ap₂, ◌∙◌}
-use mathlib.Core.Bool.{Bool, true, false, not, ◌&&◌}
+use mathlib.Core.Path.{◌≡◌, refl, sym, ap, ap₂, ◌∙◌}
+use mathlib.Core.Bool.{true, not, ◌&&◌}
 use mathlib.Core.List.{List, [], ◌∷◌, map}
-use Prim.Native.Nat.{ℕ, zero, suc, ◌<◌}
+use Prim.Native.Nat.{ℕ, ◌+◌}
 use native.Mathlib.Omega.{arith}
 use native.Mathlib.Decide.{ℕ_discrete}
+use native.Mathlib.Numerals.{add-one}
 use lib.Dec.{eqb}
 use borrow.Author.Tests.{eq-eqb, ne_eqb}
 use lib.ListN.{length, get_or, take, drop}
+use lib.Seq.{drop-cons}
+use Rattle.std.proofs.Common.{drop_of_length-le}
+use Rattle.std.specs.List.{list_all, enumerate_from}
 use Rattle.sheet.specs.Layout.{Sheet}
 use Rattle.sheet.specs.Check.{same_list}
 use Rattle.yearbook.specs.LentBook.{ids_at, unit_count_in, other_building}
 
 -- ---- two lists are the same
-pub same_lists : (xs ys : List ℕ) → xs ≡ ys → same_list xs ys ≡ true
-same_lists xs ys e = rw e (go ys)
-  where
-    go : (l : List ℕ) → same_list l l ≡ true
-    go [] = refl
-    go (x ∷ l) = rw (eq-eqb x x refl) (go l)
-
-and_none : (t : Bool) → (t && false) ≡ false
-and_none true = refl
-and_none false = refl
-
-pub differ_at : (xs ys : List ℕ) (i : ℕ) → i < length xs → i < length ys → (get_or xs i 0 ≡ get_or ys i 0 → ⊥) → same_list xs ys ≡ false
-differ_at [] ys i h k d = absurd (omega arith)
-differ_at (x ∷ xs) [] i h k d = absurd (omega arith)
-differ_at (x ∷ xs) (y ∷ ys) zero h k d = rw (ne_eqb x y d)
-differ_at (x ∷ xs) (y ∷ ys) (suc i) h k d = rw (differ_at xs ys i (omega arith) (omega arith) d) (and_none (eqb x y))
+-- f gives the second list's numbers
+pub by-places : (f : ℕ → ℕ) (ys : List ℕ) → ((i : ℕ) → get_or ys i 0 ≡ f i) → (xs : List ℕ) (i : ℕ) → length xs + i ≡ length ys
+    → list_all (λ p. eqb p.1 (f p.0)) (enumerate_from i xs) ≡ same_list xs (drop i ys)
+by-places f ys same [] i e = rw (drop_of_length-le ys {i = i} (omega arith))
+by-places f ys same (x ∷ xs) i e =
+    rw (drop-cons ys i 0 (omega arith), same i)
+    (ap (λ t. eqb x (f i) && t) (by-places f ys same xs (i + 1) (omega arith) ∙ ap (λ k. same_list xs (drop k ys)) (add-one i)))
 
 pub eqb-sym : (x y : ℕ) → eqb x y ≡ eqb y x
 eqb-sym x y = elim (ℕ_discrete x y) [

@@ -18,12 +18,9 @@ fn same_ids(ids: &[u32], sheet: Sheet<'_>) -> bool
     requires { length ids.now ≡ (sheet_of sheet.bytes.now).unit_count }
     ensures { result ≡ same_list ids.now (map (λ u. u.id) (sheet_of sheet.entry.bytes.now).units) }
 {
-    for (i, &id) in ids.iter().enumerate() {
-        if id != sheet.row(i).field(rows::Field::Id) {
-            return false;
-        }
-    }
-    true
+    ids.iter()
+        .enumerate()
+        .all(|(i, &id)| id == sheet.row(i).field(rows::Field::Id))
 }
 
 impl<'a> Book<'a> {

@@ -1,5 +1,6 @@
 // Post and replace: a settled sheet into its month, and its block into the sums.
-ghost use Rattle.std.specs.Prelude.{◌≡◌, option_copied, MatchResult, Err};
+ghost use Rattle.std.specs.Prelude.{◌≡◌, option_copied, MatchResult, Err, IsOk};
+ghost use Rattle.sheet.specs.Check.{checked};
 ghost use Rattle.sheet.specs.Refusals.{first_refusal};
 ghost use Rattle.month.specs.Month.{settle_rules};
 ghost use Rattle.year_sums.specs.Inner.Update.{old_or_zeros};
@@ -8,7 +9,8 @@ ghost use Rattle.yearbook.specs.LentBook.{lent, zero_block, Answered};
 ghost use Rattle.yearbook.specs.Inner.Bring.{bring_call, wrong_state, old_block, Settles};
 
 use crate::book::Book;
-use crate::{layout, months};
+use crate::layout;
+use crate::months::{self, Month};
 use sheet::{Refusal, Sheet, header};
 
 // How a sheet enters the book.
@@ -42,7 +44,8 @@ impl Entry {
 
 // 8 to 12, and the sheet's block.
 fn settle_block(sheet: Sheet<'_>, block: &mut [u32; layout::BLOCK_LENGTH]) -> Result<(), Refusal>
-    requires { block.old ≡ zero_block }
+    requires block { block.old ≡ zero_block }
+    requires passed { IsOk (checked 32 sheet.bytes.now) }
     ensures { MatchResult result (λ done. Settles sheet.entry.bytes.now block.new) (λ r. first_refusal (settle_rules sheet.entry.bytes.now) ≡ Err r) }
 {
     let end = 8 * sheet.unit_count();
@@ -68,7 +71,13 @@ fn bring(book: &mut [u32], sums: &mut [u64], sheet: &[u8], entry: Entry) -> Resu
     year_sums::update(sums, old, &block, sheet.unit_count())?;
     let meter = sheet.header(header::Field::SharedMeter);
     let bill = settlement::bill_cents(sheet) as u32;
-    months::put_month(book, i, 1, meter, bill, &block);
+    let month = Month {
+        mark: 1,
+        meter,
+        bill,
+        block: &block,
+    };
+    months::put_month(book, i, month);
     Ok(())
 }
 

@@ -8,7 +8,7 @@ use crate::layout;
 use sheet::Refusal;
 
 // Four sums of energy, then four of cents.
-#[derive(Clone, Copy)]
+#[derive(Clone, Copy, Default)]
 pub struct YearTotals {
     pub k: u32,
     pub sums: [u64; 8],

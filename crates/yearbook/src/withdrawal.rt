@@ -3,7 +3,8 @@ ghost use Rattle.yearbook.specs.Calls.{reply_of};
 ghost use Rattle.yearbook.specs.LentBook.{lent, Answered};
 
 use crate::book::Book;
-use crate::{layout, months};
+use crate::layout;
+use crate::months::{self, Month};
 use sheet::Refusal;
 
 // 15; 17 when the month isn't 1 to 12 or doesn't stand; 19.
@@ -21,6 +22,12 @@ pub fn withdraw(book: &mut [u32], sums: &mut [u64], month: u32) -> Result<(), Re
     let none = [0; layout::BLOCK_LENGTH];
     let n = before.unit_count() as usize;
     year_sums::update(sums, Some(before.block(i)), &none, n)?;
-    months::put_month(book, i, 0, 0, 0, &none);
+    let month = Month {
+        mark: 0,
+        meter: 0,
+        bill: 0,
+        block: &none,
+    };
+    months::put_month(book, i, month);
     Ok(())
 }

@@ -10,7 +10,6 @@ ghost use Rattle.yearbook_vectors.specs.declared.TheConstants.{ALL_SUMS};
 
 use sheet::Refusal;
 use std::io;
-use yearbook::YearTotals;
 
 // No stored sheet is longer.
 const LONGEST: usize = 5400;
@@ -20,9 +19,6 @@ const MOST_CALLS: usize = 125_000;
 
 // One more than a call should be lent.
 const ALL_SUMS: usize = 1281;
-
-// What is printed behind a refusal.
-const NO_TOTALS: YearTotals = YearTotals { k: 0, sums: [0; 8] };
 
 // What a call does, by its first byte.
 enum Kind {
@@ -77,11 +73,12 @@ impl Lists {
         let Some(length) = console::next_up_to(rt, LONGEST)? else {
             return Ok(());
         };
-        let mut buffer = [0u8; LONGEST];
-        let n = console::read_full(rt, &mut buffer[..length])?;
         let lent = self.lent;
-        let sums = &mut self.sums[..];
-        console::answer(rt, call(&mut self.book, &mut sums[..lent], &buffer[..n]))
+        let (book, sums) = (&mut self.book[..], &mut self.sums[..]);
+        let sums = &mut sums[..lent];
+        console::with_input::<LONGEST, _>(rt, length, |sheet| {
+            console::answer(rt, call(book, sums, sheet))
+        })
     }
 
     fn withdraw(&mut self, rt: &(impl Input + Print)) -> io::Result<()> {
@@ -98,7 +95,8 @@ impl Lists {
         let place = next32(rt)?;
         let totals = yearbook::year(&self.book, &self.sums[..self.lent], place);
         console::answer(rt, totals)?;
-        let totals = totals.unwrap_or(NO_TOTALS);
+        // Zeros behind a refusal.
+        let totals = totals.unwrap_or_default();
         console::word(rt, u64::from(totals.k))?;
         for sum in totals.sums {
             console::word(rt, sum)?;

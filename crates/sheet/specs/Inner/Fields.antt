@@ -1,5 +1,5 @@
 -- The fields of header and rows, and where a unit row stands in the sheet's bytes.
-use Rattle.std.specs.Prelude.{List, [], ℕ, zero, suc, ◌+◌, ◌-◌, ◌/◌, leb, length, get_or, take, drop, if◌then◌else◌}
+use Rattle.std.specs.Prelude.{List, [], ◌∷◌, map, ℕ, zero, suc, ◌+◌, ◌-◌, ◌/◌, leb, length, get_or, take, drop, if◌then◌else◌}
 use Rattle.std.proofs.Math.Option.{Option, none, some}
 use Rattle.sheet.specs.declared.header.Field.{Field as HeaderField}
 use Rattle.sheet.specs.declared.header.Field.TheVariants.{Month, Model, UnitCount, WaterSource, BasePercent, CommonHeatPercent, CommonWaterPercent, UnmeteredFactor, LossFactor, SharedMeter, Price}
@@ -33,9 +33,13 @@ row_field u Litres = u.litres
 row_field u Persons = u.persons
 row_field u Reserved = u.reserved
 
--- of the row that starts at byte `at`; 0 where it isn't wholly inside
-abbrev pub field_at : List ℕ → ℕ → RowField → ℕ
-field_at bytes at field = if leb (at + 32) (length bytes) then row_field (unit_row_at bytes at) field else 0
+-- a row's fields by their number in layout order, from 0
+abbrev pub row_fields : UnitRow → List ℕ
+row_fields u = map (row_field u) (Id ∷ Status ∷ WaterClass ∷ LocationFactor ∷ HeatedArea ∷ RiserSurface ∷ HeatLoad ∷ Reading ∷ Litres ∷ Persons ∷ Reserved ∷ [])
+
+-- field k of the row at byte `at`; 0 where the row isn't wholly inside or has no field k
+abbrev pub field_at : List ℕ → ℕ → ℕ → ℕ
+field_at bytes at k = if leb (at + 32) (length bytes) then get_or (row_fields (unit_row_at bytes at)) k 0 else 0
 
 abbrev pub header_field : Sheet → HeaderField → ℕ
 header_field s Month = s.month

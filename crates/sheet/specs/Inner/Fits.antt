@@ -1,5 +1,7 @@
 -- What a sheet has that passes 1 to 7 (document 01, "The sheet"): plain facts for whoever works with it. proofs/Fits.antt shows them.
 use Rattle.std.specs.Prelude.{◌≡◌, List, [], ◌∷◌, map, ℕ, ◌+◌, ◌*◌, ◌≤◌, ◌<◌, length}
+use Rattle.std.proofs.Math.Nat.{ℕ_set}
+use Rattle.std.specs.Coded.{×_prop, Unit-prop, le_prop}
 use Rattle.sheet.specs.declared.ranges.Range.{Range}
 use Rattle.sheet.specs.Tests.{Each}
 use Rattle.sheet.specs.Layout.{UnitRow, Sheet, sheet_of, water_reading}
@@ -68,6 +70,18 @@ pub record HeaderFits (s : Sheet) : Type 0 where
   pub no_water_readings : s.water_source ≡ 0 → (k : ℕ) → k < 6 → water_reading s k ≡ 0
   pub one_water_reading : s.water_source ≤ 2 → (k : ℕ) → 1 ≤ k → k < 6 → water_reading s k ≡ 0
 
+Each-prop : {A : Type 0} (P : A → Type 0) → ((x : A) → IsProp (P x)) → (xs : List A) → IsProp (Each P xs)
+Each-prop P p [] = Unit-prop
+Each-prop P p (x ∷ xs) = ×_prop (p x) (Each-prop P p xs)
+
+Increasing-prop : (xs : List ℕ) → IsProp (Increasing xs)
+Increasing-prop [] = Unit-prop
+Increasing-prop (x ∷ []) = Unit-prop
+Increasing-prop (x ∷ y ∷ ys) = ×_prop le_prop (Increasing-prop (y ∷ ys))
+
+UnitFits-prop : (s : Sheet) (u : UnitRow) → IsProp (UnitFits s u)
+UnitFits-prop s u = Prim.hlevel (ℕ_set, le_prop)
+
 -- a sheet with `perUnit` bytes to a unit: 32 alone, 64 in an archive record
 pub record Fits (perUnit : ℕ) (bytes : List ℕ) : Type 0 where
   pub byte_count : length bytes ≡ 48 + perUnit * (sheet_of bytes).unit_count
@@ -75,3 +89,7 @@ pub record Fits (perUnit : ℕ) (bytes : List ℕ) : Type 0 where
   pub units_length : length (sheet_of bytes).units ≡ (sheet_of bytes).unit_count
   pub units : Each (UnitFits (sheet_of bytes)) (sheet_of bytes).units
   pub increasing : Increasing (map id_of (sheet_of bytes).units)
+
+-- there is one proof at most, so a view can keep it
+pub Fits-prop : (perUnit : ℕ) (bytes : List ℕ) → IsProp (Fits perUnit bytes)
+Fits-prop perUnit bytes = Prim.hlevel (ℕ_set, le_prop, Each-prop _ (UnitFits-prop (sheet_of bytes)) (sheet_of bytes).units, Increasing-prop (map id_of (sheet_of bytes).units))

@@ -5,17 +5,15 @@ use mathlib.Core.List.{List}
 use Prim.Native.Nat.{ℕ, ◌≤◌}
 use native.Mathlib.Omega.{arith}
 use lib.ListN.{length}
-use Rattle.std.specs.Prelude.{IsOk, Err}
+use Rattle.std.specs.Prelude.{Err}
 use Rattle.std.specs.List as std
 use Rattle.std.proofs.Common.{rules}
 use Rattle.apportion.specs.Shares.{sum}
 use Rattle.sheet.specs.declared.refusal.Refusal.TheVariants.{HeaderField}
 use Rattle.sheet.specs.RuleSets.{newest}
 use Rattle.sheet.specs.Layout.{sheet_of}
-use Rattle.sheet.specs.Check.{checked}
 use Rattle.sheet.specs.Inner.Fits.{Fits}
 use Rattle.sheet.proofs.Rules.{handed_on}
-use Rattle.sheet.proofs.Views.{sheet_fits}
 use Rattle.month.specs.Inner.Accepted.{CheckedSheet}
 use Rattle.month.proofs.Accepted.{fits-checked}
 use Rattle.charges.specs.declared.models.ChargeModel.{ChargeModel}
@@ -49,9 +47,8 @@ record Weighted (bytes : List ℕ) (model : ℕ) (weights : List ℕ) : Type 0 w
   count : length weights ≡ length (sheet_of bytes).units
   small : std.sum weights ≤ 16000000
 
-weighted : (bytes : List ℕ) → IsOk (checked 32 bytes) → (m : ChargeModel) {model : ℕ} {weights : List ℕ} → model_code m ≡ model → weights ≡ charge_weights (model_code m) (sheet_of bytes) → Weighted bytes model weights
-weighted bytes passed m {model} {weights} code gathered =
-    let fits : Fits 32 bytes = sheet_fits bytes passed in
+weighted : (bytes : List ℕ) → Fits 32 bytes → (m : ChargeModel) {model : ℕ} {weights : List ℕ} → model_code m ≡ model → weights ≡ charge_weights (model_code m) (sheet_of bytes) → Weighted bytes model weights
+weighted bytes fits m {model} {weights} code gathered =
     let are = gathered ∙ ap (λ (k : ℕ). charge_weights k (sheet_of bytes)) code in
     let count = ap length are ∙ weights-count model (sheet_of bytes) in
     record {
@@ -65,7 +62,7 @@ weighted bytes passed m {model} {weights} code gathered =
     }
 
 given : (c : After-gather) → Weighted c.args.sheet.bytes.now c.args.model c.gather.new.weights
-given c = weighted c.args.sheet.bytes.now c.args.sheet.passed c.in_ok-model.model c.in_ok-model.ensures c.gather.ensures
+given c = weighted c.args.sheet.bytes.now c.args.sheet.fits c.in_ok-model.model c.in_ok-model.ensures c.gather.ensures
 
 pub sum-whole-requires-clause-fits : goal.sum-whole-requires-clause-fits
 sum-whole-requires-clause-fits c =
@@ -74,7 +71,7 @@ sum-whole-requires-clause-fits c =
 whole_is : (c : After-sum-whole) → c.sum-whole.result ≡ sum (charge_weights c.args.model (sheet_of c.args.sheet.bytes.now))
 whole_is c =
     let whole : c.sum-whole.result ≡ std.sum c.gather.new.weights = search rules in
-    whole ∙ sum_is c.gather.new.weights ∙ ap sum (weighted _ c.args.sheet.passed c.in_ok-model.model c.in_ok-model.ensures c.gather.ensures).are
+    whole ∙ sum_is c.gather.new.weights ∙ ap sum (weighted _ c.args.sheet.fits c.in_ok-model.model c.in_ok-model.ensures c.gather.ensures).are
 
 pub returns-then-whole-eq0-clause-value : goal.returns-then-whole-eq0-clause-value
 returns-then-whole-eq0-clause-value c =

@@ -5,7 +5,6 @@ use lib.Seq.{take_all}
 use Rattle.sheet.specs.declared.rows.Field.{Field}
 use Rattle.sheet.specs.Layout.{UnitRow, sheet_of}
 use Rattle.sheet.specs.Inner.Fields.{row_field}
-use Rattle.sheet.proofs.Views.{sheet_fits}
 use Rattle.charges.proofs.Weights.{next_weight, weights_are}
 use Rattle.charges.proofs.models.gather.Goals as goal
 
@@ -23,6 +22,6 @@ returns c =
     let field = c.field_by-field in
     sym (take_all l.i l.weights (omega arith))
     ∙ l.invariant
-    ∙ ap (map (λ (u : UnitRow). row_field u field.result)) (take_all l.i s.units (omega (arith, (sheet_fits _ c.args.sheet.passed).units_length)))
+    ∙ ap (map (λ (u : UnitRow). row_field u field.result)) (take_all l.i s.units (omega (arith, c.args.sheet.fits.units_length)))
     ∙ ap (λ (f : Field). map (λ (u : UnitRow). row_field u f) s.units) field.ensures
     ∙ weights_are c.args.model s

@@ -1,9 +1,10 @@
-use mathlib.Core.Path.{◌≡◌, refl, sym, ap, ap₂, ◌∙◌}
+use mathlib.Core.Path.{◌≡◌, refl, sym, ap, ◌∙◌}
+use mathlib.Core.Logic.{◌⊎◌, inl, inr}
 use mathlib.Core.Bool.{Bool, true, false, ◌||◌}
-use Prim.Native.Nat.{ℕ, zero, suc, ◌+◌}
+use Prim.Native.Nat.{ℕ, zero, suc, ◌+◌, ◌≤◌, ◌<◌}
 use native.Mathlib.Omega.{arith}
 use mathlib.Core.List.{List, map}
-use borrow.Author.Tests.{le-ltb, ne_eqb}
+use borrow.Author.Tests.{lt-ltb, le-ltb, ne_eqb}
 use lib.Dec.{ltb}
 use lib.ListN.{length}
 use Rattle.std.specs.Bool.{◌==◌}
@@ -35,13 +36,28 @@ module _ (buffer : List ℕ) (bs : List Building) (reading : ℕ) {empty : Bool}
   unfolding bad_group any
   bad-is = in_turn (ltb (length bs) 1) (ltb 12 (length bs)) (ltb 4000000000 reading) (any (map (leaves buffer) bs)) ∙ ap (λ (t : Bool). ((t || ltb 12 (length bs)) || ltb 4000000000 reading) || any (map (leaves buffer) bs)) (sym (is ∙ none_there (length bs)))
 
-pub returns-then-is_empty-buildings : goal.returns-then-is_empty-buildings
-returns-then-is_empty-buildings c =
-    let a = c.args in
-    sym (bad-is a.sheets.now a.buildings.now a.reading c.is_empty.ensures ∙ ap (λ (t : Bool). t || any (map (leaves a.sheets.now) a.buildings.now)) c.if-is_empty-buildings.true)
+  -- one of the first three holds, or none of them does
+  bad : (empty ≡ true) ⊎ ((empty ≡ false × 12 < length bs) ⊎ (empty ≡ false × length bs ≤ 12 × 4000000000 < reading)) → bad_group buffer bs reading ≡ true
+  bad why = bad-is ∙ elim why [
+    | inl e ↦ rw e refl
+    | inr more ↦ elim more [
+      | inl m ↦ rw (m.0, lt-ltb 12 (length bs) m.1) refl
+      | inr m ↦ rw (m.0, le-ltb 12 (length bs) m.1, lt-ltb 4000000000 reading m.2) refl
+    ]
+  ]
 
-pub returns : goal.returns
-returns c =
+  if_one_leaves : empty ≡ false × length bs ≤ 12 × reading ≤ 4000000000 → bad_group buffer bs reading ≡ any (map (leaves buffer) bs)
+  if_one_leaves none = bad-is ∙ rw (none.0, le-ltb 12 (length bs) none.1, le-ltb 4000000000 reading none.2) refl
+
+pub returns-then-reading-gt-MOST_READING : goal.returns-then-reading-gt-MOST_READING
+returns-then-reading-gt-MOST_READING c =
     let a = c.args in
-    let some = any_from_yields_List (leaves a.sheets.now) _ _ _ c.any.ensures.ran (YieldsList-from_slice a.buildings.now cc) (λ x b q k. search (rules, tests)) ∙ any_of (leaves a.sheets.now) a.buildings.now in
-    sym (bad-is a.sheets.now a.buildings.now a.reading c.is_empty.ensures ∙ ap₂ (λ (t d : Bool). t || d) c.if-is_empty-buildings.false (sym some))
+    let is = bad a.sheets.now a.buildings.now a.reading c.is_empty.ensures c.if-reading-gt-MOST_READING.either in
+    rw is (search rules)
+
+pub returns-else-reading-gt-MOST_READING : goal.returns-else-reading-gt-MOST_READING
+returns-else-reading-gt-MOST_READING c =
+    let a = c.args in
+    any_from_yields_List (leaves a.sheets.now) _ _ _ c.any.ensures.ran (YieldsList-from_slice a.buildings.now cc) (λ x b q k. search (rules, tests))
+    ∙ any_of (leaves a.sheets.now) a.buildings.now
+    ∙ sym (if_one_leaves a.sheets.now a.buildings.now a.reading c.is_empty.ensures c.if-reading-gt-MOST_READING.false)

@@ -29,20 +29,20 @@ pub put_unit-requires : goal.put_unit-requires
 put_unit-requires g c =
     let h = c.in-Some.ensures.steps in
     let i = c.loop-i.invariant in
-    let id = c.field.ensures ∙ ap (λ (u : UnitRow). u.id) c.row.ensures.unit ∙ ap (λ (k : ℕ). (unit_of (sheet_of c.args.sheet.bytes.now) k).id) h.1 in
-    let lines = next c.args.sheet.bytes.now c.args.statement.now c.in-Some.numbers.now _ _ c.requires.numbers i.rest h.0.1.0 h.0.1.1 i.size id in
-    omega (arith, i.room, ap length lines, length-append (line (decimal c.field.result) (map decimal c.in-Some.numbers.now)) (lines_from c.args.sheet.bytes.now c.args.statement.now (enumerate_count c.loop-i.i-iterator + 1)))
+    let id = c.field.ensures ∙ ap (λ (u : UnitRow). u.id) c.row.ensures.unit ∙ ap (λ (k : ℕ). (unit_of (sheet_of c.args.month.sheet.bytes.now) k).id) h.1 in
+    let lines = next c.args.month.sheet.bytes.now c.args.month.statement.now c.in-Some.numbers.now _ _ c.args.month.numbers i.rest h.0.1.0 h.0.1.1 i.size id in
+    omega (arith, i.room, ap length lines, length-append (line (decimal c.field.result) (map decimal c.in-Some.numbers.now)) (lines_from c.args.month.sheet.bytes.now c.args.month.statement.now (enumerate_count c.loop-i.i-iterator + 1)))
 
 pub loop-i-preserved : goal.loop-i-preserved
 loop-i-preserved g c =
     let l = g.met.S.Sink.laws in
     let h = c.in-Some.ensures.steps in
     let i = c.loop-i.invariant in
-    let bytes = c.args.sheet.bytes.now in
-    let statement = c.args.statement.now in
+    let bytes = c.args.month.sheet.bytes.now in
+    let statement = c.args.month.statement.now in
     let k = enumerate_count c.loop-i.i-iterator in
     let id = c.field.ensures ∙ ap (λ (u : UnitRow). u.id) c.row.ensures.unit ∙ ap (λ (k : ℕ). (unit_of (sheet_of bytes) k).id) h.1 in
-    let lines = next bytes statement c.in-Some.numbers.now _ k c.requires.numbers i.rest h.0.1.0 h.0.1.1 i.size id in
+    let lines = next bytes statement c.in-Some.numbers.now _ k c.args.month.numbers i.rest h.0.1.0 h.0.1.1 i.size id in
     let left = ap (lines_from bytes statement) h.2 in
     record {
       size = h.0.0 ∙ i.size;
@@ -57,7 +57,7 @@ returns g c =
     let l = g.met.S.Sink.laws in
     let h = c.in-None.ensures.steps in
     let i = c.loop-i.invariant in
-    let statement = c.args.statement.now in
+    let statement = c.args.month.statement.now in
     let k = enumerate_count c.loop-i.i-iterator in
-    let few : (sheet_of c.args.sheet.bytes.now).unit_count ≤ k = omega (arith, h.0.1.0, i.size, ap length i.rest, length-drop (8 * k) statement, c.requires.numbers) in
-    i.whole _ (subst (λ (t : List ℕ). g.S.Sink.took c.loop-i.sink t c.loop-i.sink) (sym (lines_none c.args.sheet.bytes.now statement k few)) (l.none c.loop-i.sink))
+    let few : (sheet_of c.args.month.sheet.bytes.now).unit_count ≤ k = omega (arith, h.0.1.0, i.size, ap length i.rest, length-drop (8 * k) statement, c.args.month.numbers) in
+    i.whole _ (subst (λ (t : List ℕ). g.S.Sink.took c.loop-i.sink t c.loop-i.sink) (sym (lines_none c.args.month.sheet.bytes.now statement k few)) (l.none c.loop-i.sink))

@@ -11,10 +11,10 @@ abbrev pub invariant-loop-i : goal.invariant-loop-i
 invariant-loop-i g l =
     let i = enumerate_count l.i-iterator in
     let chunks = enumerate_source l.i-iterator in
-    let left = lines_from l.sheet.bytes.now l.statement i in
+    let left = lines_from l.month.sheet.bytes.now l.month.statement.now i in
     record {
       size : chunks_exact_size chunks ≡ 8;
-      rest : chunks_exact_rest chunks ≡ drop (8 * i) l.statement;
+      rest : chunks_exact_rest chunks ≡ drop (8 * i) l.month.statement.now;
       room : length left ≤ g.S.Sink.left l.sink;
-      whole : (end : _) → g.S.Sink.took l.sink left end → g.S.Sink.took l.fn.sink (lines_from l.sheet.bytes.now l.statement 0) end;
+      whole : (end : _) → g.S.Sink.took l.sink left end → g.S.Sink.took l.fn.sink (lines_from l.month.sheet.bytes.now l.month.statement.now 0) end;
     }

@@ -1,54 +1,40 @@
--- 1 to 7, then 8 to 12, else the month.
-use lib.ListN.{length, take, replicate}
-use mathlib.Core.Path.{◌≡◌, sym, ap, subst, ◌∙◌}
+-- The text is put where all of it has room.
+use mathlib.Core.Path.{◌≡◌, ap, subst}
 use mathlib.Core.List.{List}
-use Prim.Native.Nat.{ℕ, ◌*◌, ◌≤◌}
+use Prim.Native.Nat.{ℕ, ◌≤◌}
 use native.Mathlib.Omega.{arith}
-use Rattle.std.proofs.Common.{Bor}
+use lib.ListN.{length}
+use Rattle.std.proofs.Common.{rules}
 use Rattle.sheet.specs.RuleSets.{newest}
-use Rattle.month.specs.Month.{Settled, settled_sheet}
-use Rattle.settlement.proofs.Parts.{lent_length}
-use Rattle.printing.specs.Printed.{printed}
-use Rattle.printing.specs.Inner.Placed.{Prints}
-use Rattle.printing.proofs.Answers.{refused-sheet, refused-month, settled-month, statement}
+use Rattle.month.specs.Month.{settled_sheet}
+use Rattle.printing.specs.Printed.{printed, longest, at_front}
+use Rattle.printing.specs.Inner.Placed.{Placed}
+use Rattle.printing.proofs.Answers.{list-too_short, put-at_front, outcome_short, printed-is, room_for_all}
 use Rattle.printing.proofs.text.print.Goals as goal
+use Rattle.printing.proofs.text.print.Goals.{After-put_text}
 
--- the first 8n places of the array, lent
-lent_room : {k n : ℕ} → k ≡ n → k ≤ 160 → length {A = ℕ} (take (8 * k) (replicate 1280 0)) ≡ 8 * n
-lent_room {k} e h = lent_length 1280 (8 * k) (omega arith) ∙ ap (λ (n : ℕ). 8 * n) e
+pub put_text-requires : goal.put_text-requires
+put_text-requires c = omega (arith, outcome_short c.settle-outcome.result, ap longest c.settle-outcome.ensures, room_for_all c.args.sheet.now)
 
-pub returns-in-Err : goal.returns-in-Err
-unfolding printed
-returns-in-Err c =
-    let p = c.print_refusal in
-    let r = subst (λ (x : Settled). Prints x p.result c.args.text.now p.new.text) (sym (refused-sheet c.args.sheet.now _ (sym c.in-Err.ensures.answer))) p.ensures in
-    record { value = (r.long, r.short); text_after = r.list }
+how_long : (c : After-put_text) → (c.put_text.new.sink.len ≡ length (printed c.args.sheet.now)) × (c.put_text.new.sink.len ≤ longest (settled_sheet newest c.args.sheet.now))
+how_long c =
+    let o = c.settle-outcome in
+    (omega (arith, c.put_text.ensures, ap length (printed-is c.args.sheet.now _ o.ensures)), omega (arith, c.put_text.ensures, outcome_short o.result, ap longest o.ensures))
 
-pub print_month-requires-clause-statement : goal.print_month-requires-clause-statement
-print_month-requires-clause-statement c =
-    let s = c.in-Ok.checked in
-    let o = c.settle_checked in
-    let room = lent_room c.unit_count.ensures.0 (omega (arith, c.unit_count.ensures)) in
-    (statement s.bytes.now _ s.passed room (sym o.ensures.value ∙ c.in-Ok-settle_checked.is) o.ensures.statement_after, omega (arith, o.auto, room))
+pub returns-then-text-len-clause-value : goal.returns-then-text-len-clause-value
+returns-then-text-len-clause-value c = how_long (goal.at.returns-then-text-len-clause-value c).After-put_text
 
-pub returns-in-Err-settle_checked : goal.returns-in-Err-settle_checked
-unfolding printed
-returns-in-Err-settle_checked c =
-    let s = c.in-Ok.checked in
-    let p = c.print_refusal-in-Err-settle_checked in
-    let room = lent_room c.unit_count.ensures.0 (omega (arith, c.unit_count.ensures)) in
-    let is = refused-month s.bytes.now _ s.passed room _ (sym c.settle_checked.ensures.value ∙ c.in-Err-settle_checked.is) in
-    let same = ap (λ (b : Bor (List ℕ)). settled_sheet newest b.now) c.in-Ok.ensures.sheet in
-    let r = subst (λ (x : Settled). Prints x p.result c.args.text.now p.new.text) (sym is ∙ same) p.ensures in
-    record { value = (r.long, r.short); text_after = r.list }
+pub returns-then-text-len-clause-text_after : goal.returns-then-text-len-clause-text_after
+returns-then-text-len-clause-text_after c =
+    let long = how_long (goal.at.returns-then-text-len-clause-text_after c).After-put_text in
+    list-too_short (printed c.args.sheet.now) c.args.text.now (omega (arith, long.0, c.if-text-len.true))
 
-pub returns-in-Ok-settle_checked : goal.returns-in-Ok-settle_checked
-unfolding printed
-returns-in-Ok-settle_checked c =
-    let s = c.in-Ok.checked in
-    let p = c.print_month in
-    let room = lent_room c.unit_count.ensures.0 (omega (arith, c.unit_count.ensures)) in
-    let is = settled-month s.bytes.now _ s.passed room (sym c.settle_checked.ensures.value ∙ c.in-Ok-settle_checked.is) in
-    let same = ap (λ (b : Bor (List ℕ)). settled_sheet newest b.now) c.in-Ok.ensures.sheet in
-    let r = subst (λ (x : Settled). Prints x p.result c.args.text.now p.new.text) (sym is ∙ same) p.ensures in
-    record { value = (r.long, r.short); text_after = r.list }
+pub returns-clause-value : goal.returns-clause-value
+returns-clause-value c = how_long (goal.at.returns-clause-value c).After-put_text
+
+pub returns-clause-text_after : goal.returns-clause-text_after
+returns-clause-text_after c =
+    let long = how_long (goal.at.returns-clause-text_after c).After-put_text in
+    let writer = c.put_text-2.new.sink in
+    let placed = subst (λ (t : List ℕ). Placed t c.args.text.now 0 writer.text.now writer.at) (printed-is c.args.sheet.now _ c.settle-outcome.ensures) c.put_text-2.ensures.placed in
+    subst (λ (after : List ℕ). after ≡ at_front (printed c.args.sheet.now) c.args.text.now) (search rules) (put-at_front (printed c.args.sheet.now) c.args.text.now (omega (arith, long.0, c.if-text-len.false)) placed)

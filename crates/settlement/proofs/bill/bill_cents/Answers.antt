@@ -1,12 +1,11 @@
 use mathlib.Core.Path.{ap₂, ◌∙◌}
 use native.Mathlib.Omega.{arith}
-use Rattle.sheet.proofs.Views.{sheet_fits}
 use Rattle.month.specs.Month.{cents_for, bill_cents}
 use Rattle.settlement.proofs.bill.bill_cents.Goals as goal
 
 pub cents_for-requires : goal.cents_for-requires
 cents_for-requires c =
-    let h = (sheet_fits c.args.sheet.bytes.now c.args.sheet.passed).header in
+    let h = c.args.sheet.fits.header in
     (omega (arith, c.from.ensures, c.header.ensures, h.shared_meter), omega (arith, c.from-2.ensures, c.header-2.ensures, h.price))
 
 pub returns : goal.returns

@@ -7,4 +7,4 @@ use Rattle.settlement.proofs.heat.heat_by_meters.Given as goal
 
 -- the readings of the units passed
 abbrev pub invariant-loop-i : goal.invariant-loop-i
-invariant-loop-i l = take l.i l.out ≡ chosen (λ u. true) (λ u. u.reading) (take l.i (sheet_of l.sheet.bytes.now).units)
+invariant-loop-i l = take l.i l.heat-items ≡ chosen (λ u. true) (λ u. u.reading) (take l.i (sheet_of l.sheet.bytes.now).units)

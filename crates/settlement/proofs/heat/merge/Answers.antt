@@ -4,7 +4,6 @@ use mathlib.Core.Bool.{Bool, true, false, not}
 use native.Mathlib.Omega.{arith}
 use lib.ListN.{drop, get_or}
 use Rattle.sheet.specs.Layout.{sheet_of}
-use Rattle.sheet.proofs.Views.{sheet_fits}
 use mir.Val.{bool_byte}
 use Rattle.apportion.specs.Shares.{bit}
 use Rattle.sheet.specs.Inner.Fields.{unit_of}
@@ -48,4 +47,4 @@ returns c =
     let l = c.loop-i in
     let e : l.i ≡ s.unit_count = omega (arith, c.unit_count-i-end.ensures) in
     rw (← e)
-    (order-end s.units (drop l.q a.unread.now) (drop l.r a.read.now) l.out l.i (omega (arith, (sheet_fits a.sheet.bytes.now a.sheet.passed).units_length)) l.invariant.1.1)
+    (order-end s.units (drop l.q a.unread.now) (drop l.r a.read.now) l.out l.i (omega (arith, a.sheet.fits.units_length)) l.invariant.1.1)

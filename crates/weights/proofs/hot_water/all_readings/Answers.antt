@@ -1,6 +1,5 @@
 use native.Mathlib.Omega.{arith}
 use Rattle.sheet.specs.Layout.{sheet_of}
-use Rattle.sheet.proofs.Views.{sheet_fits}
 use Rattle.month.proofs.Accepted.{fits-checked}
 use Rattle.month.proofs.Bounds.{sum_bounds}
 use Rattle.weights.proofs.hot_water.all_readings.Goals as goal
@@ -8,5 +7,5 @@ use Rattle.weights.proofs.hot_water.all_readings.Goals as goal
 pub returns : goal.returns
 unfolding sheet_of
 returns c =
-    let b = (sum_bounds _ (fits-checked (sheet_fits _ c.args.sheet.passed))).summer-readings in
+    let b = (sum_bounds _ (fits-checked c.args.sheet.fits)).summer-readings in
     (omega arith, omega (arith, b))

@@ -1,7 +1,6 @@
 use mathlib.Core.Path.{sym, ap, ap₂, ◌∙◌}
 use Prim.Native.Nat.{ℕ, ◌+◌, ◌*◌, ◌/◌, ◌≤◌}
 use native.Mathlib.Omega.{arith}
-use Rattle.sheet.proofs.Views.{sheet_fits}
 use Rattle.month.specs.Steps.{hot_water}
 use Rattle.month.specs.Month.{hot_water_wh}
 use Rattle.month.proofs.Accepted.{fits-checked}
@@ -19,7 +18,7 @@ returns-in-Meter c = rw (← c.in-Meter.ensures) (c.from-reading.ensures ∙ c.h
 
 product : (c : After-from-factor) → (100 + c.from-factor.result) * 54 * c.from-reading.result ≤ 324000000000
 product c =
-    let b = sum_bounds _ (fits-checked (sheet_fits _ c.args.sheet.passed)) in
+    let b = sum_bounds _ (fits-checked c.args.sheet.fits) in
     rw (c.from-factor.ensures, c.header-in-HeatedColdWater.ensures, c.from-reading.ensures, c.header.ensures) (b.litres-heated (sym c.in-HeatedColdWater.ensures))
 
 pub overflow_mul-result-in-HeatedColdWater : goal.overflow_mul-result-in-HeatedColdWater

@@ -5,7 +5,6 @@ use Rattle.sheet.specs.declared.codes.Model.{Model}
 use Rattle.sheet.specs.declared.codes.Model.TheVariants.{ByLoad, ByArea, ByAllocatorsAndArea, ByAllocatorsAndRisers, ByMeters}
 use Rattle.sheet.specs.Inner.Codes.{model_code}
 use Rattle.sheet.specs.Layout.{sheet_of}
-use Rattle.sheet.proofs.Views.{sheet_fits}
 use Rattle.month.specs.Weights.{all_metered}
 use Rattle.weights.specs.declared.totals.Totals.{Totals}
 use Rattle.weights.proofs.Tests.{all_read}
@@ -22,7 +21,7 @@ pub returns-in-ByMeters : goal.returns-in-ByMeters
 unfolding all_metered
 returns-in-ByMeters c =
     let b = c.args.basis.now in
-    let f = sheet_fits b.sheet.bytes.now b.sheet.passed in
+    let f = b.sheet.fits in
     rw (← c.in-ByMeters.ensures) (ap₂ eqb (ap (λ (t : Totals). t.read) b.summed) (c.unit_count.ensures.0 ∙ sym f.units_length) ∙ all_read (sheet_of b.sheet.bytes.now).units)
 
 pub returns-in_default : goal.returns-in_default

@@ -1,7 +1,6 @@
 use mathlib.Core.Path.{◌≡◌, sym, ap, ap₂, subst, ◌∙◌}
 use mathlib.Core.Bool.{Bool, not}
 use Rattle.sheet.specs.Inner.Views.{sheet_in, unit_in}
-use Rattle.sheet.proofs.Views.{sheet_fits}
 use Rattle.weights.specs.Inner.Totals.{only_if, of_unit, Within}
 use Rattle.weights.proofs.Rows.{litres_counted, reading_counted}
 use Rattle.weights.proofs.Ready.{row_fits}
@@ -32,4 +31,4 @@ returns c =
       surface = (c.only_if-7.ensures ∙ ap₂ only_if read (c.from-4.ensures ∙ c.field-5.ensures)) i;
       readings = (c.from-5.ensures ∙ c.field-6.ensures ∙ reading_counted fits) i;
     } in
-    (same, subst (Within 1) (sym same) (unit-within s u (sheet_fits row.sheet.bytes.now row.sheet.passed).header.unmetered_factor_high fits))
+    (same, subst (Within 1) (sym same) (unit-within s u row.sheet.fits.header.unmetered_factor_high fits))

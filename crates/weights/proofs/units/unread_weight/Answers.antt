@@ -3,7 +3,6 @@ use Prim.Native.Nat.{◌*◌, ◌≤◌}
 use native.Mathlib.Omega.{arith}
 use Rattle.month.specs.Weights.{unread_weight}
 use Rattle.month.proofs.Bounds.{three_le}
-use Rattle.sheet.proofs.Views.{sheet_fits}
 use Rattle.weights.proofs.Ready.{row_fits}
 use Rattle.weights.proofs.units.unread_weight.Goals.{After-from}
 use Rattle.weights.proofs.units.unread_weight.Goals as goal
@@ -14,7 +13,7 @@ product c =
     let u = row_fits row in
     let p : c.from-p.result ≤ 10000 = omega (arith, c.field.ensures, u.heated_area) in
     let k : c.from.result ≤ 1000 = omega (arith, c.field-then-has_no_device.ensures, u.location_factor) in
-    let f : c.from-factor.result ≤ 35 = omega (arith, c.header.ensures, (sheet_fits row.sheet.bytes.now row.sheet.passed).header.unmetered_factor_high) in
+    let f : c.from-factor.result ≤ 35 = omega (arith, c.header.ensures, row.sheet.fits.header.unmetered_factor_high) in
     omega (arith, three_le p k f)
 
 pub overflow_mul-result-then-has_no_device : goal.overflow_mul-result-then-has_no_device

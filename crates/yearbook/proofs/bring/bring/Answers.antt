@@ -1,14 +1,13 @@
 use mathlib.Core.Path.{sym, ◌∙◌}
 use Prim.Native.Nat.{◌-◌, ◌<◌}
 use native.Mathlib.Omega.{arith}
-use Rattle.sheet.proofs.Views.{sheet_fits}
 use Rattle.year_sums.proofs.Updating.{update-err, update-ok}
 use Rattle.yearbook.specs.LentBook.{with_sheet}
 use Rattle.yearbook.proofs.Answers.{bring_15, bring_unchecked, bring_refused, bring_16, bring_17, bring_19, bring_accepted}
 use Rattle.yearbook.proofs.Blocks.{stored-length}
 use Rattle.sheet.proofs.Rules.{handed}
 use Rattle.yearbook.proofs.Handed.{same}
-use Rattle.yearbook.proofs.Brought.{state_is, off_is, old-full, settles_full, settles_blocks, settles_write}
+use Rattle.yearbook.proofs.Brought.{state_is, off_is, old-full, settles_blocks, settles_write}
 use Rattle.yearbook.proofs.bring.bring.Goals as goal
 
 pub returns-in_err-before : goal.returns-in_err-before
@@ -32,10 +31,10 @@ returns-then-other_building c =
     (bring_16 c.args.entry _ _ (rw book at c.in_ok-before.ensures.0) _ c.in_ok-settle_block.ensures.settles (sym c.other_building.ensures ∙ c.if-other_building.true))
 
 pub overflow_sub-i : goal.overflow_sub-i
-overflow_sub-i c = omega (arith, c.header.ensures, (sheet_fits _ c.in_ok-sheet.sheet.passed).header.month_low)
+overflow_sub-i c = omega (arith, c.header.ensures, c.in_ok-sheet.sheet.fits.header.month_low)
 
 pub stands-requires : goal.stands-requires
-stands-requires c = omega (arith, c.header.ensures, (sheet_fits _ c.in_ok-sheet.sheet.passed).header.month)
+stands-requires c = omega (arith, c.header.ensures, c.in_ok-sheet.sheet.fits.header.month)
 
 pub returns-then-wrong_state : goal.returns-then-wrong_state
 returns-then-wrong_state c =
@@ -45,11 +44,11 @@ returns-then-wrong_state c =
     (state_is c.args.entry _ _ c.header.ensures c.stands.ensures c.wrong_state.ensures ∙ c.if-wrong_state.true))
 
 pub block-requires : goal.block-requires
-block-requires c = omega (arith, c.header.ensures, (sheet_fits _ c.in_ok-sheet.sheet.passed).header.month)
+block-requires c = omega (arith, c.header.ensures, c.in_ok-sheet.sheet.fits.header.month)
 
 pub update-requires : goal.update-requires
 update-requires c =
-    let low : c.header.result - 1 < 12 = omega (arith, c.header.ensures, (sheet_fits _ c.in_ok-sheet.sheet.passed).header.month) in
+    let low : c.header.result - 1 < 12 = omega (arith, c.header.ensures, c.in_ok-sheet.sheet.fits.header.month) in
     settles_blocks c.in_ok-settle_block.ensures c.unit_count.result c.unit_count.ensures.1 c.unit_count.ensures.0 _
     (rw c.old_block-old.ensures (old-full c.args.entry _ (rw c.block.ensures (stored-length _ c.in_ok-before.before.sound.size _ low))))
 
@@ -66,8 +65,7 @@ returns-in_err-update c =
 pub put_month-requires : goal.put_month-requires
 put_month-requires c = (
   rw (same c.in_ok-before.ensures.1) c.in_ok-before.before.sound.size,
-  omega (arith, c.header.ensures, (sheet_fits _ c.in_ok-sheet.sheet.passed).header.month),
-  settles_full c.in_ok-settle_block.ensures,
+  omega (arith, c.header.ensures, c.in_ok-sheet.sheet.fits.header.month),
 )
 
 pub returns : goal.returns

@@ -4,13 +4,12 @@ use native.Mathlib.Omega.{arith}
 use Rattle.sheet.specs.Layout.{UnitRow}
 use Rattle.sheet.specs.Inner.Fields.{row_field, unit_row_at, row_place}
 use Rattle.sheet.proofs.Units.{unit-at}
-use Rattle.sheet.proofs.Views.{sheet_fits}
 use Rattle.sheet.proofs.view.RowView.field.Goals as goal
 
 pub field_at-requires : goal.field_at-requires
 field_at-requires c =
     let row = c.args.self in
-    omega (arith, row.aligned, row.inside, (sheet_fits _ row.sheet.passed).byte_count)
+    omega (arith, row.aligned, row.inside, row.sheet.fits.byte_count)
 
 pub returns : goal.returns
 returns c =

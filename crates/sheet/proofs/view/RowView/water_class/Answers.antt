@@ -6,5 +6,5 @@ use Rattle.sheet.proofs.view.RowView.water_class.Goals as goal
 pub unwrap-requires : goal.unwrap-requires
 unwrap-requires c =
     let row = c.args.self in
-    let u = unit_fits _ row.sheet.passed (row_place row.start) row.inside in
+    let u = unit_fits _ row.sheet.fits (row_place row.start) row.inside in
     known _ _ c.try_from.result c.try_from.ensures (λ e none. omega (arith, c.field.ensures, u.water_class, none.1))
