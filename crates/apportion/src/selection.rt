@@ -73,7 +73,9 @@ impl Split {
 impl<'a> Leftover<'a> {
     // Where the threshold lies, by counts of the keys in 64 brackets: keys that differ only below the six highest bits of the largest share
     // one. It is a guess that the caller tests.
-    fn around(&self) -> Bracket {
+    fn around(&self) -> Bracket
+        ensures { (self.now.lo ≤ result.lo) × (result.hi ≤ self.now.hi) }
+    {
         let shift = 58u32.saturating_sub((self.hi - 1).leading_zeros());
         let mut counts = [0; 64];
         tally(self.keys, shift, &mut counts);

@@ -15,8 +15,7 @@ pub fn number(rt: &impl Print, x: u64) -> io::Result<()> {
 
 // A space and a number.
 pub fn word(rt: &impl Print, x: u64) -> io::Result<()> {
-    rt.print(" ")?;
-    number(rt, x)
+    print!(rt; " {x}")
 }
 
 pub fn newline(rt: &impl Print) -> io::Result<()> {
@@ -29,8 +28,7 @@ pub fn answer<T: Copy>(rt: &impl Print, outcome: Result<T, Refusal>) -> io::Resu
         Ok(_) => (0, 0),
         Err(refusal) => (refusal.number(), refusal.place()),
     };
-    number(rt, u64::from(x))?;
-    word(rt, u64::from(y))
+    print!(rt; "{x} {y}")
 }
 
 // Reads until the buffer is full or the reader ends. How many bytes it put at the buffer's start.

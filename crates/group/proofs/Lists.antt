@@ -11,8 +11,6 @@ use lib.Dec.{eqb}
 use lib.IntN.{ℤ}
 use mir.Syntax.{w64}
 use mir.Val.{SFits, of_z, to_z}
-use Rattle.std.specs.Prelude.{Result, Ok, Err}
-use Rattle.std.specs.Result.{IsErrAnd}
 use Rattle.std.proofs.lemmas.Int.{to_z-of_z}
 use Rattle.std.specs.List as std
 use Rattle.apportion.specs.Shares.{sum}
@@ -44,11 +42,6 @@ differs_is (x ∷ xs) h = rw (eq-eqb x x refl) (any_of (λ y. not (eqb y x)) xs)
 -- ---- a signed number, as a call is given it
 pub same_z : {z : ℤ} → SFits w64 z → to_z w64 (of_z w64 z) ≡ z
 same_z {z} fits = grind (arith, to_z-of_z)
-
--- ---- a `?` hands on the call's own refusal
-pub residual_is : {A E : Type 0} (answer : Result A E) (e : E) → IsErrAnd answer (λ (q : E). q ≡ e) → answer ≡ Err e
-residual_is (Ok x) e h = absurd h
-residual_is (Err q) e h = ap Err h
 
 -- ---- as many items in both lists, and those at the same place have to do with each other
 module _ {A B : Type 0} where

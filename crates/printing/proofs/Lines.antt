@@ -4,15 +4,14 @@ use mathlib.Core.List.{List, [], ◌∷◌, ◌++◌, map}
 use Prim.Native.Nat.{ℕ, suc, ◌+◌, ◌*◌, ◌≤◌, ◌<◌}
 use native.Mathlib.Omega.{arith}
 use native.Mathlib.Numerals.{add-one}
-use lib.ListN.{length, get_or, take, drop, length-append, length-take, length-drop, drop_of_length-le}
-use lib.Seq.{get_or-take, get_or-drop, take_at, drop_at, drop-cons, drop-drop}
+use lib.ListN.{length, get_or, take, drop, length-append, length-take, length-drop}
+use lib.Seq.{get_or-take, get_or-drop, take_at, drop_at, drop-cons}
 use Rattle.sheet.specs.declared.refusal.Refusal.{Refusal}
 use Rattle.sheet.specs.declared.refusal.Refusal.TheVariants.{TooShort, BadMagic, UnsupportedVersion, HeaderField, WrongLength, RowField, IdOrder, HotWaterExceedsMeter, ZeroDivisor, NoReadings, MetersExceedHeat, UnmeteredExceedsHeat, BufferLength, BadArchive, BadYearBook, OtherBuilding, MonthState, NoSuchUnit, BadYearSums, FieldConflict, NegativeCommonHeat, BadGroup}
 use Rattle.sheet.specs.Refusals.{number_of, place_of}
 use Rattle.sheet.specs.declared.rule_set.RuleSet.{RuleSet}
 use Rattle.sheet.specs.RuleSets.{newest}
 use Rattle.sheet.specs.Layout.{UnitRow, Sheet, byte, unit_row, sheet_of}
-use Rattle.sheet.specs.Inner.Fields.{unit_of}
 use Rattle.sheet.specs.Inner.Fits.{Fits}
 use Rattle.sheet.proofs.Units.{ids-count, id-at, unit-at}
 use Rattle.month.specs.Month.{Month, bill_cents, settled, statement_of, month_of}
@@ -90,26 +89,15 @@ pub further-next : (numbers : List ℕ) (j : ℕ) → j < length numbers → fur
 further-next numbers j h = rw (add-one, drop-cons numbers j 0 h)
 
 -- ---- one unit further
--- the lines from unit i on
-abbrev pub lines_from : (sheet statement : List ℕ) (i : ℕ) → List ℕ
-lines_from sheet statement i = unit_lines (drop i (month_of newest (sheet_of sheet)).ids) (drop (8 * i) statement)
+pub lines_next : (us : List UnitRow) (u : UnitRow) (more : List UnitRow) (ns numbers behind : List ℕ) {id : ℕ} → us ≡ u ∷ more → ns ≡ numbers ++ behind → length numbers ≡ 8 → id ≡ u.id
+    → unit_lines (map (λ u. u.id) us) ns ≡ line (decimal id) (map decimal numbers) ++ unit_lines (map (λ u. u.id) more) behind
+unfolding unit_lines
+lines_next us u more ns numbers behind cut cut-numbers eight is = rw (cut, cut-numbers, is, take_at numbers behind 8 eight, drop_at numbers behind 8 eight)
 
-module _ (bytes statement : List ℕ) (i : ℕ) where
-  abbrev ids : List ℕ
-  ids = (month_of newest (sheet_of bytes)).ids
-
-  pub lines_next : (numbers more : List ℕ) {id : ℕ} → i < (sheet_of bytes).unit_count → id ≡ (unit_of (sheet_of bytes) i).id → drop (8 * i) statement ≡ numbers ++ more → length numbers ≡ 8
-      → lines_from bytes statement i ≡ line (decimal id) (map decimal numbers) ++ lines_from bytes statement (i + 1)
-  unfolding unit_lines month_of
-  lines_next numbers more h e cut long =
-      let next : 8 * (i + 1) ≡ 8 * i + 8 = omega arith in
-      rw (next, add-one, ← drop-drop 8 (8 * i) statement, drop-cons ids i 0 (omega (arith, ids-count bytes)), id-at (sheet_of bytes) i, e, cut, take_at numbers more 8 long, drop_at numbers more 8 long)
-
-  pub lines_none : (sheet_of bytes).unit_count ≤ i → lines_from bytes statement i ≡ []
-  unfolding unit_lines month_of
-  lines_none h =
-      let few : length ids ≤ i = omega (arith, ids-count bytes) in
-      rw (drop_of_length-le ids few)
+pub lines_none : (us : List UnitRow) (ns : List ℕ) → length us ≡ 0 → unit_lines (map (λ u. u.id) us) ns ≡ []
+unfolding unit_lines
+lines_none [] ns e = refl
+lines_none (u ∷ us) ns e = absurd (omega arith)
 
 -- ---- how long the lines of the units are, where ids and numbers have 32 bits
 abbrev Fits32 : List ℕ → Type 0

@@ -59,8 +59,8 @@ fn put_units<S: Sink>(sink: &mut S, month: SettledMonth<'_>)
     requires { length (unit_lines_of month.sheet.bytes.now month.statement.now) ≤ S.left sink.old }
     ensures { S.took sink.old (unit_lines_of month.entry.sheet.bytes.now month.entry.statement.now) sink.new }
 {
-    for (i, numbers) in month.statement.chunks_exact(8).enumerate() {
-        put_unit(sink, month.sheet.row(i).field(rows::Field::Id), numbers);
+    for (row, numbers) in month.sheet.rows().zip(month.statement.chunks_exact(8)) {
+        put_unit(sink, row.field(rows::Field::Id), numbers);
     }
 }
 

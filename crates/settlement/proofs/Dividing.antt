@@ -1,11 +1,11 @@
 -- What each division goes by, that it fits, and what one over all units gives. Assumes nothing.
 use mathlib.Core.Path.{◌≡◌, refl, sym, ap, subst, ◌∙◌}
 use mathlib.Core.Bool.{true}
-use mathlib.Core.List.{List, [], ◌∷◌, ◌++◌, map}
+use mathlib.Core.List.{List, [], ◌∷◌, ◌++◌, map, append-nil}
 use Prim.Native.Nat.{ℕ, ◌^◌, ◌≤◌, ◌<◌}
 use native.Mathlib.Omega.{arith}
 use borrow.Author.Tests.{eq-eqb, ne_eqb}
-use lib.ListN.{length, take, length-map, replicate}
+use lib.ListN.{length, take, drop, length-map, drop_of_length-le, replicate}
 use lib.Seq.{take_at}
 use Rattle.apportion.specs.Shares.{sum, remainder, shares}
 use Rattle.apportion.proofs.Laws.{shares-none, shares-fair}
@@ -28,8 +28,12 @@ use Rattle.settlement.specs.Inner.Division.{Divides, Shared}
 use Rattle.settlement.proofs.Parts.{front_untouched}
 
 -- the shares at the front of a longer list
-pub front_shares : (total k : ℕ) (ws new rest : List ℕ) → length ws ≡ k → (sum ws ≡ 0 → total ≡ 0) → new ≡ shares total ws → take k (new ++ rest) ≡ shares total ws
-front_shares total k ws new rest many h e = take_at new rest k (ap length e ∙ (shares-fair total ws h).as_many ∙ many) ∙ e
+pub front_shares : (total k : ℕ) (ws out rest : List ℕ) → length ws ≡ k → (sum ws ≡ 0 → total ≡ 0) → out ≡ shares total ws ++ rest → take k out ≡ shares total ws
+front_shares total k ws out rest many h e = ap (take k) e ∙ take_at (shares total ws) rest k ((shares-fair total ws h).as_many ∙ many)
+
+-- the shares alone, where the list was as long as the weights
+pub all_shares : (total : ℕ) (ws before : List ℕ) {out : List ℕ} → length before ≡ length ws → out ≡ shares total ws ++ drop (length ws) before → out ≡ shares total ws
+all_shares total ws before many e = e ∙ ap (λ (rest : List ℕ). shares total ws ++ rest) (drop_of_length-le before (omega arith)) ∙ append-nil (shares total ws)
 
 pub those-all : (us : List UnitRow) → those (λ u. true) us ≡ us
 those-all [] = refl

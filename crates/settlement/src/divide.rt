@@ -1,5 +1,5 @@
 // The divisions of a month.
-ghost use Rattle.std.specs.Prelude.{◌≡◌, ◌-◌, ◌^◌, ◌≤◌, ◌<◌, length, replicate};
+ghost use Rattle.std.specs.Prelude.{◌≡◌, ◌++◌, ◌-◌, ◌^◌, ◌≤◌, ◌<◌, length, drop, replicate};
 ghost use Rattle.apportion.specs.Shares.{sum, shares};
 ghost use Rattle.weights.specs.Inner.By.{weights_by};
 ghost use Rattle.weights.specs.Inner.Months.{sheet_of_month};
@@ -9,14 +9,15 @@ ghost use Rattle.settlement.specs.Inner.Heat.{SplitParts};
 use weights::Month;
 use weights::gather::{By, gather};
 
-// The total divided by the weights, of which there are 160 at the most.
+// The total divided by the weights, of which there are 160 at the most: the shares stand at the front of the list, and what is behind them stays.
 pub fn share(total: u64, weights: &[u64], out: &mut [u32])
-    requires few { (length weights.now ≤ 160) × (length out.old ≡ length weights.now) }
+    requires few { (length weights.now ≤ 160) × (length weights.now ≤ length out.old) }
     requires divides { Divides total weights.now × (sum weights.now < 2 ^ 62) }
-    ensures { out.new ≡ shares total weights.now }
+    ensures { out.new ≡ shares total weights.now ++ drop (length weights.now) out.old }
 {
     let mut remainders = [0u64; 160];
-    apportion::apportion(total, weights, &mut remainders[..weights.len()], out);
+    let n = weights.len();
+    apportion::apportion(total, weights, &mut remainders[..n], &mut out[..n]);
 }
 
 // The total divided by the weights of the units that take part, at the front of a list that begins as zeros: with nothing to divide it stays.
@@ -29,7 +30,7 @@ pub(crate) fn divide_by<'a>(month: &'a Month<'a>, by: By, total: u64, out: &mut 
     }
     let mut weights = [0u64; 160];
     let m = gather(&month.basis, by, &mut weights);
-    share(total, &weights[..m], &mut out[..m]);
+    share(total, &weights[..m], out);
 }
 
 // The units' part and the common part.

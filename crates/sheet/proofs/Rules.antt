@@ -44,9 +44,9 @@ unfolding first_refusal
 rules-end rules k h = ap first_refusal (drop_of_length-le rules h)
 
 -- ---- a `?` hands on the call's own refusal
-pub handed : {A : Type 0} (answer : Result A Refusal) (r : Refusal) → IsErrAnd answer (λ (q : Refusal). q ≡ r) → answer ≡ Err r
-handed (Ok x) r h = absurd h
-handed (Err q) r h = ap Err h
+pub handed : {A E : Type 0} (answer : Result A E) (e : E) → IsErrAnd answer (λ (q : E). q ≡ e) → answer ≡ Err e
+handed (Ok x) e h = absurd h
+handed (Err q) e h = ap Err h
 
 pub handed_on : (answer call : Outcome) (r : Refusal) → IsErrAnd answer (λ (q : Refusal). q ≡ r) → call ≡ Err r → answer ≡ call
 handed_on answer call r h e = handed answer r h ∙ sym e

@@ -20,7 +20,7 @@ fn all_readings(sheet: Sheet<'_>) -> u64
 }
 
 // Rounded up (own).
-pub(crate) fn hot_water(sheet: Sheet<'_>) -> u64
+pub fn hot_water(sheet: Sheet<'_>) -> u64
     ensures { result ≡ hot_water_wh (sheet_of sheet.entry.bytes.now) }
 {
     let reading = u64::from(sheet.header(Field::WaterReading1));

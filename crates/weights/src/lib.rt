@@ -4,7 +4,7 @@
 mod accepted;
 mod basis;
 pub mod gather;
-mod hot_water;
+pub mod hot_water;
 mod kinds;
 mod metered;
 mod refusals;
@@ -12,7 +12,7 @@ mod totals;
 mod units;
 
 pub use accepted::Month;
-pub use basis::{Basis, Unit};
+pub use basis::Basis;
 pub use kinds::is_read;
-pub use metered::all_metered;
+pub use metered::{all_metered, metered_heat};
 pub use totals::Totals;

@@ -32,7 +32,7 @@ fn metered_sum(sheet: Sheet<'_>) -> Option<Wh>
 }
 
 // C, or nothing where the exception doesn't hold.
-pub(crate) fn metered_heat(basis: &Basis<'_>) -> Option<Wh>
+pub fn metered_heat(basis: &Basis<'_>) -> Option<Wh>
     ensures { result ≡ amount_of (metered_heat (sheet_of basis.now.sheet.bytes.now)) }
 {
     if all_metered(basis) {

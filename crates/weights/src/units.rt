@@ -35,7 +35,7 @@ fn limited(base: u64, r: u64) -> u64
     requires { (base ≤ 80000000000) × (r ≤ 16000000000000) }
     ensures { (result ≡ limited base r) × (result ≤ 24000000000000) }
 {
-    r.min(300 * base).max(40 * base)
+    r.clamp(40 * base, 300 * base)
 }
 
 // Step 4 without any reading: p × KF, for model 4 s × KF.

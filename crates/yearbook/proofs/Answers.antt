@@ -1,8 +1,9 @@
 -- Each outcome of each call, by the tests on the way to it: what its contract says there. Assumes nothing.
 use mathlib.Core.Path.{◌≡◌, refl, ◌∙◌}
-use mathlib.Core.Bool.{true, false}
+use mathlib.Core.Bool.{true, false, not}
 use mathlib.Core.List.{List, [], ◌∷◌}
-use Prim.Native.Nat.{ℕ, ◌-◌, ◌≤◌, ◌<◌}
+use Prim.Native.Nat.{ℕ, ◌+◌, ◌-◌, ◌≤◌, ◌<◌}
+use native.Mathlib.Omega.{arith}
 use borrow.Author.Tests.{lt-ltb, le-ltb, eq-eqb, ne_eqb}
 use lib.ListN.{length}
 use Rattle.sheet.specs.declared.refusal.Refusal.{Refusal}
@@ -18,7 +19,7 @@ use Rattle.month.proofs.Laws.{settled-month}
 use Rattle.yearbook.specs.Calls.{withdraw, accepted, refused}
 use Rattle.year_sums.specs.YearSums.{sums_length, zero_sums, updated, wrong_sums, bad_sums}
 use Rattle.yearbook.specs.LentBook.{sums_at}
-use Rattle.yearbook.specs.LentBook.{Lent, lent, book_length, unit_count_in, marked, bad_book, other_building, block_in, block_of, zero_block, sheet_call_rules, clear_month, fresh_book, open_answer, opened, with_sheet, post_answer, posted, replace_answer, replaced, withdraw_answer, withdrawn, year_rules, year_outcome, marks_in, year_answer, lent_reply, lent_after, Opens, Answered, totals_by, Tells}
+use Rattle.yearbook.specs.LentBook.{Lent, lent, book_length, unit_count_in, marked, bad_book, other_building, block_in, block_of, zero_block, put_month, sheet_call_rules, clear_month, fresh_book, open_answer, opened, with_sheet, post_answer, posted, replace_answer, replaced, withdraw_answer, withdrawn, year_rules, year_outcome, marks_in, year_answer, lent_reply, lent_after, Opens, Answered, totals_by, Tells}
 use Rattle.yearbook.specs.declared.bring.Entry.{Entry}
 use Rattle.yearbook.specs.declared.bring.Entry.TheVariants.{Post, Replace}
 use Rattle.yearbook.specs.Inner.Bring.{bring_call, wrong_month, taken_off}
@@ -124,27 +125,38 @@ module _ (l : Lent) (month : ℕ) where
     unfolding withdraw_answer first_refusal
     withdraw-low h = withdraw-by (rw (sound, lt-ltb month 1 h))
 
-    module _ (low : 1 ≤ month) where
-      pub withdraw-high : 12 < month → Answered l (withdraw month) (refused MonthState) l
+    pub withdraw-high : 12 < month → Answered l (withdraw month) (refused MonthState) l
+    unfolding withdraw_answer first_refusal
+    withdraw-high h = withdraw-by (rw (sound, le-ltb month 1 (omega (arith, h)), lt-ltb 12 month h))
+
+    -- a month's place
+    module _ (place : ℕ) (is : month ≡ place + 1) (below : place < 12) where
+      from_marks : withdraw_answer l month
+          ≡ first_refusal
+          ((not (marked l.book place) ⇒ MonthState)
+          ∷ (bad_sums l.sums (block_in l.book place) zero_block ⇒ BadYearSums)
+          ∷ [])
       unfolding withdraw_answer first_refusal
-      withdraw-high h = withdraw-by (rw (sound, le-ltb month 1 low, lt-ltb 12 month h))
+      from_marks =
+          let at : month - 1 ≡ place = omega (arith, is) in
+          rw (sound, le-ltb month 1 (omega (arith, is)), le-ltb 12 month (omega (arith, is)), at)
 
-      module _ (high : month ≤ 12) where
-        pub withdraw_17 : marked l.book (month - 1) ≡ false → Answered l (withdraw month) (refused MonthState) l
-        unfolding withdraw_answer first_refusal
-        withdraw_17 e = withdraw-by (rw (sound, le-ltb month 1 low, le-ltb 12 month high, e))
+      pub withdraw_17 : marked l.book place ≡ false → Answered l (withdraw month) (refused MonthState) l
+      unfolding first_refusal
+      withdraw_17 e = withdraw-by (from_marks ∙ rw e)
 
-        module _ (stands : marked l.book (month - 1) ≡ true) where
-          pub withdraw_19 : bad_sums l.sums (block_in l.book (month - 1)) zero_block ≡ true → Answered l (withdraw month) (refused BadYearSums) l
-          unfolding withdraw_answer first_refusal
-          withdraw_19 e = withdraw-by (rw (sound, le-ltb month 1 low, le-ltb 12 month high, stands, e))
+      module _ (stands : marked l.book place ≡ true) where
+        pub withdraw_19 : bad_sums l.sums (block_in l.book place) zero_block ≡ true → Answered l (withdraw month) (refused BadYearSums) l
+        unfolding first_refusal
+        withdraw_19 e = withdraw-by (from_marks ∙ rw (stands, e))
 
-          pub withdraw-accepted : bad_sums l.sums (block_in l.book (month - 1)) zero_block ≡ false
-              → Answered l (withdraw month) accepted (lent (clear_month l.book month) (updated l.sums (block_in l.book (month - 1)) zero_block))
-          unfolding lent_reply lent_after withdrawn withdraw_answer first_refusal
-          withdraw-accepted e =
-              let f = le-ltb month 1 low in let h = le-ltb 12 month high in
-              record { reply = rw (sound, f, h, stands, e); after = rw (sound, f, h, stands, e) }
+        pub withdraw-accepted : bad_sums l.sums (block_in l.book place) zero_block ≡ false
+            → Answered l (withdraw month) accepted (lent (put_month l.book place 0 0 0 zero_block) (updated l.sums (block_in l.book place) zero_block))
+        unfolding first_refusal lent_reply lent_after withdrawn clear_month
+        withdraw-accepted e =
+            let at : month - 1 ≡ place = omega (arith, is) in
+            let passes : withdraw_answer l month ≡ Ok tt = from_marks ∙ rw (stands, e) in
+            record { reply = rw passes; after = rw (passes, at) }
 
 -- ---- year
 module _ (l : Lent) (place : ℕ) where

@@ -2,7 +2,7 @@
 use mathlib.Core.Path.{◌≡◌, refl, sym, ap, ap₂, ◌∙◌}
 use mathlib.Core.Bool.{Bool}
 use mathlib.Core.List.{List, ◌++◌}
-use Prim.Native.Nat.{ℕ, ◌*◌, ◌-◌, ◌≤◌}
+use Prim.Native.Nat.{ℕ, ◌+◌, ◌*◌, ◌-◌, ◌≤◌}
 use native.Mathlib.Omega.{arith}
 use borrow.Author.Tests.{eq-eqb}
 use lib.ListN.{length, take, drop, replicate, get_or-eq_default, length-replicate}
@@ -18,7 +18,7 @@ use Rattle.settlement.specs.Settle.{settle_answer, statement_after}
 use Rattle.year_sums.specs.Inner.Update.{Blocks}
 use Rattle.yearbook.specs.declared.bring.Entry.{Entry}
 use Rattle.yearbook.specs.declared.bring.Entry.TheVariants.{Post, Replace}
-use Rattle.yearbook.specs.LentBook.{block_length, marked, block_in, put_month, put_sheet}
+use Rattle.yearbook.specs.LentBook.{block_length, place_of_month, marked, block_in, put_month, put_sheet}
 use Rattle.yearbook.specs.Inner.Bring.{wrong_state, wrong_month, old_block, taken_off, Settles}
 use Rattle.yearbook.proofs.Stores.{zeros-after}
 use Rattle.yearbook.proofs.Settled.{sheet-refused, own-month, statement-length, block_length_lem}
@@ -65,13 +65,16 @@ module _ (sheet : List ℕ) (n : ℕ) (few : n ≤ 160) (count : n ≡ (sheet_of
   block-settled (Ok done) h front written = front-settled h front written
   block-settled (Err r) h front written = front-refused r (sym h)
 
--- ---- 17, and what a call takes off, as code finds them
-module _ (entry : Entry) (b sheet : List ℕ) {month : ℕ} (month-is : month ≡ (sheet_of sheet).month) where
-  pub state_is : {stands wrong : Bool} → stands ≡ marked b (month - 1) → wrong ≡ wrong_state entry stands → wrong_month entry b sheet ≡ wrong
-  state_is e f = rw (f, e, month-is)
+-- ---- the place of a sheet's month, 17, and what a call takes off, as code finds them
+pub placed : (sheet : List ℕ) {month place : ℕ} → month ≡ (sheet_of sheet).month → month ≡ place + 1 → place ≡ place_of_month sheet
+placed sheet e f = omega (arith, e, f)
 
-  pub off_is : {stored old : List ℕ} → stored ≡ block_in b (month - 1) → old ≡ old_block entry stored → old ≡ taken_off entry b sheet
-  off_is e f = rw (f, e, month-is)
+module _ (entry : Entry) (b sheet : List ℕ) {place : ℕ} (place-is : place ≡ place_of_month sheet) where
+  pub state_is : {stands wrong : Bool} → stands ≡ marked b place → wrong ≡ wrong_state entry stands → wrong_month entry b sheet ≡ wrong
+  state_is e f = rw (f, e, place-is)
+
+  pub off_is : {stored old : List ℕ} → stored ≡ block_in b place → old ≡ old_block entry stored → old ≡ taken_off entry b sheet
+  off_is e f = rw (f, e, place-is)
 
 pub old-full : (entry : Entry) (stored : List ℕ) → length stored ≡ block_length → length (old_block entry stored) ≡ block_length
 old-full Post stored e = length-replicate {A = ℕ} block_length 0
@@ -91,7 +94,7 @@ module _ {sheet block : List ℕ} (f : Settles sheet block) where
         ∙ get_or-eq_default (statement_of newest (sheet_of sheet)) 0 (omega (arith, statement-length sheet f.settles)));
   }
 
-  pub settles_write : (b : List ℕ) (month meter bill : ℕ) → month ≡ (sheet_of sheet).month → meter ≡ (sheet_of sheet).shared_meter → bill ≡ bill_cents (sheet_of sheet)
-      → put_month b (month - 1) 1 meter bill block ≡ put_sheet b sheet
+  pub settles_write : (b : List ℕ) (place meter bill : ℕ) → place ≡ place_of_month sheet → meter ≡ (sheet_of sheet).shared_meter → bill ≡ bill_cents (sheet_of sheet)
+      → put_month b place 1 meter bill block ≡ put_sheet b sheet
   unfolding put_sheet
-  settles_write b month meter bill d e g = rw (d, e, g, f.block-is)
+  settles_write b place meter bill d e g = rw (d, e, g, f.block-is)

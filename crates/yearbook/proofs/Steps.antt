@@ -22,7 +22,7 @@ use Rattle.month.proofs.Laws.{settled-month}
 use Rattle.month.proofs.Lists.{sum_to_cong}
 use Rattle.yearbook.specs.Calls.{Call, post, replace, withdraw, year, Reply, totals}
 use Rattle.yearbook.specs.PlainBook.{PlainBook, Step, has_sheet, stands, standing, sheets_of, not_kept, refuse, tell, now_holds, brought, withdrawn, told, called, number_in, unit_sums}
-use Rattle.yearbook.specs.LentBook.{Lent, block_length, block_in, block_of, zero_block, unit_count_in, mark_at, marked, bad_book, other_building, if_marked, marks_in, sums_at, with_sheet, place_of_month, lent_reply, lent_after, Answered}
+use Rattle.yearbook.specs.LentBook.{Lent, block_length, block_in, block_of, zero_block, unit_count_in, mark_at, marked, bad_book, other_building, if_marked, marks_in, sums_at, with_sheet, clear_month, place_of_month, lent_reply, lent_after, Answered}
 use Rattle.yearbook.specs.Matches.{block_sum, Matches}
 use Rattle.yearbook.proofs.Sums.{or_zero, sum-held, sum_ones, eight_cong}
 use Rattle.year_sums.proofs.Lists.{neither}
@@ -109,7 +109,7 @@ module _ {n : ℕ} {l : Lent} {p : PlainBook} (h : Shows n l.book p) (m : Matche
 
   -- ---- withdraw
   withdraw_so : (month : ℕ) → Follows n l (withdraw month) (called p (withdraw month))
-  unfolding called withdrawn now_holds
+  unfolding called withdrawn now_holds clear_month
   withdraw_so month = go (not (passes (month within 1 to 12)) || not (stands p month)) refl
     where
       go : (t : Bool) → (not (passes (month within 1 to 12)) || not (stands p month)) ≡ t → Follows n l (withdraw month) (if t then refuse p MonthState else now_holds p month none)
@@ -119,16 +119,16 @@ module _ {n : ℕ} {l : Lent} {p : PlainBook} (h : Shows n l.book p) (m : Matche
           let low : month - 1 < 12 = omega (arith, r.0, r.1) in
           let standing-now = stands_so month r.0 r.1 ∙ not-false _ k.1 in
           let zeros : (k : ℕ) → get_or zero_block k 0 < 4294967296 = λ k. let z = zero-at block_length k in omega (arith, z) in
-          follows (withdraw-accepted l month sound r.0 r.1 standing-now (good-sums h m (month - 1) low (block_in b (month - 1)) zero_block (stored_counted b h.size (month - 1) low standing-now) (length-replicate {A = ℕ} block_length 0) zeros)) (shows-cleared h month r.0 r.1)
+          follows (withdraw-accepted l month sound (month - 1) (omega (arith, r.0)) low standing-now (good-sums h m (month - 1) low (block_in b (month - 1)) zero_block (stored_counted b h.size (month - 1) low standing-now) (length-replicate {A = ℕ} block_length 0) zeros)) (shows-cleared h month r.0 r.1)
       go true e = elim (dec_lt month 1) [
         | yes x ↦ follows (withdraw-low l month sound x) h
         | no x ↦ elim (dec_lt 12 month) [
-          | yes y ↦ follows (withdraw-high l month sound (omega arith) y) h
+          | yes y ↦ follows (withdraw-high l month sound y) h
           | no y ↦
               let first : 1 ≤ month = omega arith in
               let last : month ≤ 12 = omega arith in
               let gone : not (stands p month) ≡ true = rw (le-leb 1 month first, le-leb month 12 last) at e in
-              follows (withdraw_17 l month sound first last (stands_so month first last ∙ not-true _ gone)) h
+              follows (withdraw_17 l month sound (month - 1) (omega arith) (omega arith) (stands_so month first last ∙ not-true _ gone)) h
         ]
       ]
 

@@ -5,6 +5,7 @@ ghost use Rattle.sheet.specs.Check.{same_list};
 ghost use Rattle.yearbook.specs.Inner.Sound.{Sound};
 
 use crate::layout;
+use crate::months::MonthPlace;
 use sheet::{Refusal, Sheet, rows};
 
 #[derive(Clone, Copy)]
@@ -24,7 +25,7 @@ fn same_ids(ids: &[u32], sheet: Sheet<'_>) -> bool
 }
 
 impl<'a> Book<'a> {
-    ghost use Rattle.std.specs.Prelude.{true, false, ◌≤◌, ◌<◌, MatchResult};
+    ghost use Rattle.std.specs.Prelude.{true, false, ◌≤◌, MatchResult};
     ghost use Rattle.sheet.specs.declared.refusal.Refusal.TheVariants.{BadYearBook};
     ghost use Rattle.yearbook.specs.LentBook.{unit_count_in, marked, block_in, bad_book, other_building, marks_in};
 
@@ -45,20 +46,18 @@ impl<'a> Book<'a> {
         self.numbers[layout::UNIT_COUNT]
     }
 
-    // Whether the month at place i, from 0, stands.
-    pub(crate) fn stands(self, i: usize) -> bool
-        requires { i < 12 }
-        ensures { result ≡ marked self.entry.numbers.now i }
+    // Whether the month at a place stands.
+    pub(crate) fn stands(self, at: MonthPlace) -> bool
+        ensures { result ≡ marked self.entry.numbers.now at.place }
     {
-        self.numbers[layout::MARKS + i] == 1
+        self.numbers[layout::MARKS + at.place] == 1
     }
 
     // Its block.
-    pub(crate) fn block(self, i: usize) -> &'a [u32]
-        requires { i < 12 }
-        ensures { result.now ≡ block_in self.entry.numbers.now i }
+    pub(crate) fn block(self, at: MonthPlace) -> &'a [u32]
+        ensures { result.now ≡ block_in self.entry.numbers.now at.place }
     {
-        let start = layout::BLOCKS + layout::BLOCK_LENGTH * i;
+        let start = layout::BLOCKS + layout::BLOCK_LENGTH * at.place;
         &self.numbers[start..start + layout::BLOCK_LENGTH]
     }
 

@@ -10,7 +10,7 @@ ghost use Rattle.yearbook.specs.Inner.Bring.{bring_call, wrong_state, old_block,
 
 use crate::book::Book;
 use crate::layout;
-use crate::months::{self, Month};
+use crate::months::{self, Month, MonthPlace};
 use sheet::{Refusal, Sheet, header};
 
 // How a sheet enters the book.
@@ -63,11 +63,11 @@ fn bring(book: &mut [u32], sums: &mut [u64], sheet: &[u8], entry: Entry) -> Resu
     if before.other_building(sheet) {
         return Err(Refusal::OtherBuilding);
     }
-    let i = sheet.header(header::Field::Month) as usize - 1;
-    if entry.wrong_state(before.stands(i)) {
+    let at = MonthPlace::of(sheet.header(header::Field::Month)).unwrap();
+    if entry.wrong_state(before.stands(at)) {
         return Err(Refusal::MonthState);
     }
-    let old = entry.old_block(before.block(i));
+    let old = entry.old_block(before.block(at));
     year_sums::update(sums, old, &block, sheet.unit_count())?;
     let meter = sheet.header(header::Field::SharedMeter);
     let bill = settlement::bill_cents(sheet) as u32;
@@ -77,7 +77,7 @@ fn bring(book: &mut [u32], sums: &mut [u64], sheet: &[u8], entry: Entry) -> Resu
         bill,
         block: &block,
     };
-    months::put_month(book, i, month);
+    months::put_month(book, at, month);
     Ok(())
 }
 

@@ -10,6 +10,7 @@ use Rattle.apportion.specs.Shares.{sum, shares, added, remainder}
 use Rattle.apportion.proofs.Turns.{turned, turns, remainder_by}
 use Rattle.month.proofs.Nearness.{item_le}
 use Rattle.apportion.proofs.Sums.{sum_is}
+use Rattle.settlement.proofs.Dividing.{all_shares}
 use Rattle.group.proofs.Replacing.{none-replaced, one-replaced, all-replaced}
 use Rattle.group.proofs.difference.share_difference.Invariants.{turned_with}
 use Rattle.group.proofs.difference.share_difference.Goals.{After-iter, After-sum-whole, After-share}
@@ -73,5 +74,5 @@ returns c =
     let a = c.args in
     let whole = c.sum-whole.result in
     let many : length a.areas.now ≡ length c.share.new.out = search rules in
-    divided a.size whole a.areas.now c.share.new.out l.areas (whole_is (goal.at.returns c).After-sum-whole) (omega arith) c.share.ensures
+    divided a.size whole a.areas.now c.share.new.out l.areas (whole_is (goal.at.returns c).After-sum-whole) (omega arith) (all_shares _ a.areas.now _ (search rules) c.share.ensures)
     (all-replaced _ _ _ l.i l.areas (omega arith) (omega arith) many l.invariant ∙ side_by_side (a.size / whole) a.areas.now c.share.new.out many)

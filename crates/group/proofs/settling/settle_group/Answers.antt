@@ -15,7 +15,7 @@ use Rattle.group.specs.Group.{group_units, group_statement}
 use Rattle.group.specs.Answer.{parts_of, first_in, own_stages}
 use Rattle.group.specs.Inner.Parts.{parts_in, sheets_in, group_in}
 use Rattle.group.specs.Inner.Figures.{common_heat, list_answer, last_answer}
-use Rattle.group.proofs.Lists.{residual_is}
+use Rattle.sheet.proofs.Rules.{handed}
 use Rattle.group.proofs.Outcomes.{list-fits, first-refused, own-refused, list-refused, last-refused, settled}
 use Rattle.group.proofs.settling.settle_group.Goals.{In_ok-group-2}
 use Rattle.group.proofs.settling.settle_group.Goals as goal
@@ -47,7 +47,7 @@ pub returns-in_err-group : goal.returns-in_err-group
 returns-in_err-group c =
     let a = c.args in
     let r = c.in_err-group.field-0.0 in
-    let is = first-refused newest a.sheets.now a.buildings.now a.reading a.statement.now c.from_residual.result r (residual_is _ _ c.from_residual.ensures.1) (sym c.in_err-group.ensures.answer) in
+    let is = first-refused newest a.sheets.now a.buildings.now a.reading a.statement.now c.from_residual.result r (handed _ _ c.from_residual.ensures.1) (sym c.in_err-group.ensures.answer) in
     record { value = is.0; statement_after = is.1 }
 
 pub returns-in_err-group-2 : goal.returns-in_err-group-2
@@ -56,7 +56,7 @@ returns-in_err-group-2 c =
     let e = c.in_err-group-2.field-0.0 in
     let refused = ap (λ (parts : List (List ℕ)). first_in (own_stages 0 parts)) (sym (same_parts c.in_ok-group.group c.in_ok-group.ensures.group)) ∙ sym c.in_err-group-2.ensures.answer in
     let result = c.from_residual-in_err-group-2 in
-    let is = own-refused newest a.sheets.now a.buildings.now a.reading a.statement.now (sym c.in_ok-group.ensures.answer) result.result e (residual_is _ _ result.ensures.1) refused in
+    let is = own-refused newest a.sheets.now a.buildings.now a.reading a.statement.now (sym c.in_ok-group.ensures.answer) result.result e (handed _ _ result.ensures.1) refused in
     record { value = is.0; statement_after = is.1 }
 
 pub returns-in_err-check_list : goal.returns-in_err-check_list
@@ -64,7 +64,7 @@ returns-in_err-check_list c =
     let a = c.args in
     let at = (goal.at.returns-in_err-check_list c).In_ok-group-2 in
     let result = c.from_residual-in_err-check_list in
-    let is = list-refused newest a.sheets.now a.buildings.now a.reading a.statement.now (sym c.in_ok-group.ensures.answer) (own at) result.result _ (residual_is _ _ result.ensures.1) (lists at c.in_err-check_list.ensures) in
+    let is = list-refused newest a.sheets.now a.buildings.now a.reading a.statement.now (sym c.in_ok-group.ensures.answer) (own at) result.result _ (handed _ _ result.ensures.1) (lists at c.in_err-check_list.ensures) in
     record { value = is.0; statement_after = is.1 }
 
 pub settle-requires : goal.settle-requires
@@ -83,7 +83,7 @@ returns-in_err-settle c =
     let at = (goal.at.returns-in_err-settle c).In_ok-group-2 in
     let last = ap (last_answer newest) (sym (group at)) ∙ sym c.in_err-settle.ensures.value in
     let result = c.from_residual-in_err-settle in
-    let is = last-refused newest a.sheets.now a.buildings.now a.reading a.statement.now (sym c.in_ok-group.ensures.answer) (own at) (lists at c.in_ok-check_list.ensures) result.result _ (residual_is _ _ result.ensures.1) last in
+    let is = last-refused newest a.sheets.now a.buildings.now a.reading a.statement.now (sym c.in_ok-group.ensures.answer) (own at) (lists at c.in_ok-check_list.ensures) result.result _ (handed _ _ result.ensures.1) last in
     record { value = is.0; statement_after = c.in_err-settle.ensures.statement_after ∙ is.1 }
 
 pub returns : goal.returns

@@ -1,63 +1,52 @@
 -- Invariant: with the lines that are left the sink has taken all lines.
-use mathlib.Core.Path.{◌≡◌, sym, ap, subst, ◌∙◌}
-use mathlib.Core.List.{List, ◌++◌, map}
-use Prim.Native.Nat.{ℕ, ◌+◌, ◌*◌, ◌<◌, ◌≤◌}
+use mathlib.Core.Path.{◌≡◌, refl, sym, ap, subst, ◌∙◌}
+use mathlib.Core.Logic.{inl, inr}
+use mathlib.Core.List.{List, map}
+use Prim.Native.Nat.{ℕ}
 use native.Mathlib.Omega.{arith}
-use lib.ListN.{length, length-append, length-drop, drop}
-use lib.Seq.{drop-drop, drop_at}
-use Rattle.std.specs.Iterator.Adapters.{enumerate_count}
-use Rattle.sheet.specs.Layout.{UnitRow, sheet_of}
-use Rattle.sheet.specs.Inner.Fields.{unit_of}
+use lib.ListN.{length, length-append}
+use Rattle.std.specs.Iterator.Adapters.{zip_first, zip_second}
+use Rattle.std.specs.Slice.Iter.{chunks_exact_rest}
+use Rattle.sheet.specs.Inner.Rows.{rows_left}
+use Rattle.month.specs.Month.{month_of}
 use Rattle.printing.specs.Text.{decimal, line}
-use Rattle.printing.proofs.Lines.{lines_from, lines_next, lines_none}
+use Rattle.printing.specs.Printed.{unit_lines}
+use Rattle.printing.proofs.Lines.{lines_next, lines_none}
 use Rattle.printing.proofs.render.put_units.Goals as goal
 
--- the chunk that the code cuts from what is left is the next unit's
-next : (bytes statement numbers more : List ℕ) (k : ℕ) {size id : ℕ} {rest : List ℕ} → length statement ≡ 8 * (sheet_of bytes).unit_count → rest ≡ drop (8 * k) statement → rest ≡ numbers ++ more
-    → length numbers ≡ size → size ≡ 8 → id ≡ (unit_of (sheet_of bytes) k).id → lines_from bytes statement k ≡ line (decimal id) (map decimal numbers) ++ lines_from bytes statement (k + 1)
-next bytes statement numbers more k all left cut long eight is =
-    let h : k < (sheet_of bytes).unit_count = omega (arith, length-drop (8 * k) statement, ap length left, ap length cut, length-append numbers more) in
-    lines_next bytes statement k numbers more h is (sym left ∙ cut) (long ∙ eight)
-
--- what is left past it
-behind : (statement numbers more : List ℕ) (k : ℕ) {rest : List ℕ} → rest ≡ drop (8 * k) statement → rest ≡ numbers ++ more → length numbers ≡ 8 → more ≡ drop (8 * (k + 1)) statement
-behind statement numbers more k left cut long =
-    let e : 8 * (k + 1) ≡ 8 * k + 8 = omega arith in
-    sym (ap (λ (n : ℕ). drop n statement) e ∙ sym (drop-drop 8 (8 * k) statement) ∙ ap (drop 8) (sym left ∙ cut) ∙ drop_at numbers more 8 long)
+pub loop-row-init : goal.loop-row-init
+unfolding month_of
+loop-row-init g c = rw (c.into_iter-row-iterator.ensures.into_iter_gives, c.zip-row-items.ensures.first, c.zip-row-items.ensures.second, c.rows.ensures.units, c.chunks_exact.ensures.rest, c.chunks_exact.ensures.size)
+    (record { size = refl; numbers = omega (arith, c.args.month.numbers, c.args.month.sheet.fits.units_length); room = c.requires; whole = λ end others. others })
 
 pub put_unit-requires : goal.put_unit-requires
 put_unit-requires g c =
     let h = c.in-Some.ensures.steps in
-    let i = c.loop-i.invariant in
-    let id = c.field.ensures ∙ ap (λ (u : UnitRow). u.id) c.row.ensures.unit ∙ ap (λ (k : ℕ). (unit_of (sheet_of c.args.month.sheet.bytes.now) k).id) h.1 in
-    let lines = next c.args.month.sheet.bytes.now c.args.month.statement.now c.in-Some.numbers.now _ _ c.args.month.numbers i.rest h.0.1.0 h.0.1.1 i.size id in
-    omega (arith, i.room, ap length lines, length-append (line (decimal c.field.result) (map decimal c.in-Some.numbers.now)) (lines_from c.args.month.sheet.bytes.now c.args.month.statement.now (enumerate_count c.loop-i.i-iterator + 1)))
+    let i = c.loop-row.invariant in
+    let lines = lines_next _ _ _ _ c.in-Some.numbers.now _ h.0.0 h.1.1.0 (h.1.1.1 ∙ i.size) c.field.ensures in
+    omega (arith, i.room, ap length lines, length-append (line (decimal c.field.result) (map decimal c.in-Some.numbers.now)) (unit_lines (map (λ u. u.id) (rows_left (zip_first c.next.new.self))) (chunks_exact_rest (zip_second c.next.new.self))))
 
-pub loop-i-preserved : goal.loop-i-preserved
-loop-i-preserved g c =
+pub loop-row-preserved : goal.loop-row-preserved
+loop-row-preserved g c =
     let l = g.met.S.Sink.laws in
     let h = c.in-Some.ensures.steps in
-    let i = c.loop-i.invariant in
-    let bytes = c.args.month.sheet.bytes.now in
-    let statement = c.args.month.statement.now in
-    let k = enumerate_count c.loop-i.i-iterator in
-    let id = c.field.ensures ∙ ap (λ (u : UnitRow). u.id) c.row.ensures.unit ∙ ap (λ (k : ℕ). (unit_of (sheet_of bytes) k).id) h.1 in
-    let lines = next bytes statement c.in-Some.numbers.now _ k c.args.month.numbers i.rest h.0.1.0 h.0.1.1 i.size id in
-    let left = ap (lines_from bytes statement) h.2 in
+    let i = c.loop-row.invariant in
+    let first = line (decimal c.field.result) (map decimal c.in-Some.numbers.now) in
+    let others = unit_lines (map (λ u. u.id) (rows_left (zip_first c.next.new.self))) (chunks_exact_rest (zip_second c.next.new.self)) in
+    let lines = lines_next _ _ _ _ c.in-Some.numbers.now _ h.0.0 h.1.1.0 (h.1.1.1 ∙ i.size) c.field.ensures in
     record {
-      size = h.0.0 ∙ i.size;
-      rest = behind statement c.in-Some.numbers.now _ k i.rest h.0.1.0 (h.0.1.1 ∙ i.size) ∙ ap (λ (k : ℕ). drop (8 * k) statement) (sym h.2);
-      room = omega (arith, ap length left, i.room, ap length lines, length-append (line (decimal c.field.result) (map decimal c.in-Some.numbers.now)) (lines_from bytes statement (k + 1)), l.room c.loop-i.sink c.put_unit.new.sink (line (decimal c.field.result) (map decimal c.in-Some.numbers.now)) c.put_unit.ensures);
-      whole = λ end others. i.whole end (subst (λ (t : List ℕ). g.S.Sink.took c.loop-i.sink t end) (sym lines)
-          (l.both c.loop-i.sink c.put_unit.new.sink end (line (decimal c.field.result) (map decimal c.in-Some.numbers.now)) (lines_from bytes statement (k + 1)) c.put_unit.ensures (subst (λ (t : List ℕ). g.S.Sink.took c.put_unit.new.sink t end) left others)));
+      size = h.1.0 ∙ i.size;
+      numbers = omega (arith, i.numbers, i.size, ap length h.0.0, ap length h.1.1.0, h.1.1.1, length-append c.in-Some.numbers.now (chunks_exact_rest (zip_second c.next.new.self)));
+      room = omega (arith, i.room, ap length lines, length-append first others, l.room c.loop-row.sink c.put_unit.new.sink first c.put_unit.ensures);
+      whole = λ end taken. i.whole end (subst (λ (t : List ℕ). g.S.Sink.took c.loop-row.sink t end) (sym lines) (l.both c.loop-row.sink c.put_unit.new.sink end first others c.put_unit.ensures taken));
     }
 
 pub returns : goal.returns
 returns g c =
     let l = g.met.S.Sink.laws in
-    let h = c.in-None.ensures.steps in
-    let i = c.loop-i.invariant in
-    let statement = c.args.month.statement.now in
-    let k = enumerate_count c.loop-i.i-iterator in
-    let few : (sheet_of c.args.month.sheet.bytes.now).unit_count ≤ k = omega (arith, h.0.1.0, i.size, ap length i.rest, length-drop (8 * k) statement, c.args.month.numbers) in
-    i.whole _ (subst (λ (t : List ℕ). g.S.Sink.took c.loop-i.sink t c.loop-i.sink) (sym (lines_none c.args.month.sheet.bytes.now statement k few)) (l.none c.loop-i.sink))
+    let i = c.loop-row.invariant in
+    let none : length (rows_left (zip_first c.loop-row.row-iterator)) ≡ 0 = elim c.in-None.ensures.steps [
+      | inl h ↦ ap length h.1.0
+      | inr h ↦ omega (arith, i.numbers, i.size, h.1.1.0)
+    ] in
+    i.whole _ (subst (λ (t : List ℕ). g.S.Sink.took c.loop-row.sink t c.loop-row.sink) (sym (lines_none _ _ none)) (l.none c.loop-row.sink))

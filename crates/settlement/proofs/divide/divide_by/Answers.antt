@@ -1,6 +1,8 @@
-use mathlib.Core.Path.{refl, sym, ap, ◌∙◌}
+use mathlib.Core.Path.{refl, ap, ◌∙◌}
+use mathlib.Core.List.{List, ◌++◌}
+use Prim.Native.Nat.{ℕ}
 use native.Mathlib.Omega.{arith}
-use lib.Seq.{length-take-le}
+use lib.ListN.{length, drop}
 use Rattle.weights.specs.Inner.Months.{sheet_of_month}
 use Rattle.weights.proofs.Ready.{month_accepted}
 use Rattle.apportion.specs.Shares.{shares}
@@ -14,14 +16,6 @@ returns-then-total-eq0 c = zeros_shared c.args.month.now c.args.by (omega arith)
 pub slice_bounds-weights-end : goal.slice_bounds-weights-end
 slice_bounds-weights-end c = omega (arith, c.gather-m.ensures.few, (month_accepted c.args.month.now).checked-sheet.header.unit_count)
 
-pub slice_bounds-share-end-2 : goal.slice_bounds-share-end-2
-slice_bounds-share-end-2 c = omega (arith, c.gather-m.ensures.few, (month_accepted c.args.month.now).checked-sheet.header.unit_count)
-
-pub slice_bounds-share-end : goal.slice_bounds-share-end
-slice_bounds-share-end c =
-    let g = c.gather-m in
-    sym (length-take-le g.result g.new.out (omega (arith, g.array_long, g.ensures.few, (month_accepted c.args.month.now).checked-sheet.header.unit_count)))
-
 pub share-requires-clause-divides : goal.share-requires-clause-divides
 share-requires-clause-divides c =
     let m = c.args.month.now in
@@ -31,4 +25,4 @@ pub returns : goal.returns
 returns c =
     let m = c.args.month.now in
     let g = c.gather-m in
-    front_shares c.args.total _ (weights_by m.basis.rules c.args.by (sheet_of_month m)) c.share.new.out _ refl c.requires.1.1 (c.share.ensures ∙ ap (shares c.args.total) g.ensures.weights)
+    front_shares c.args.total _ (weights_by m.basis.rules c.args.by (sheet_of_month m)) c.share.new.out _ refl c.requires.1.1 (c.share.ensures ∙ ap (λ (ws : List ℕ). shares c.args.total ws ++ drop (length ws) c.args.out.now) g.ensures.weights)

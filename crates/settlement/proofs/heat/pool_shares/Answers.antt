@@ -1,8 +1,8 @@
 use mathlib.Core.Path.{◌≡◌, sym, ap, ◌∙◌}
-use mathlib.Core.List.{[], ◌∷◌, ◌++◌}
+use mathlib.Core.List.{List, [], ◌∷◌, ◌++◌}
 use Prim.Native.Nat.{ℕ, ◌+◌, ◌*◌, ◌-◌}
 use native.Mathlib.Omega.{arith}
-use lib.ListN.{length, length-set}
+use lib.ListN.{length, drop, length-set}
 use lib.Seq.{length-take-le}
 use Rattle.weights.specs.Inner.Months.{sheet_of_month}
 use Rattle.weights.proofs.Ready.{month_accepted}
@@ -29,24 +29,6 @@ bounds-weights-m c =
     let w = pool-weights c.args.month.now c.requires.model g.new.out (omega (arith, g.array_long)) g.ensures.few g.ensures.weights in
     w.few
 
-pub offset_bounds-weights-m : goal.offset_bounds-weights-m
-offset_bounds-weights-m c =
-    let g = c.gather-m in
-    let w = pool-weights c.args.month.now c.requires.model g.new.out (omega (arith, g.array_long)) g.ensures.few g.ensures.weights in
-    omega (arith, w.few)
-
-pub overflow_add-weights : goal.overflow_add-weights
-overflow_add-weights c =
-    let g = c.gather-m in
-    let w = pool-weights c.args.month.now c.requires.model g.new.out (omega (arith, g.array_long)) g.ensures.few g.ensures.weights in
-    omega (arith, w.few)
-
-pub overflow_add-m : goal.overflow_add-m
-overflow_add-m c =
-    let g = c.gather-m in
-    let w = pool-weights c.args.month.now c.requires.model g.new.out (omega (arith, g.array_long)) g.ensures.few g.ensures.weights in
-    omega (arith, w.few)
-
 pub slice_bounds-weights-end : goal.slice_bounds-weights-end
 slice_bounds-weights-end c =
     let g = c.gather-m in
@@ -59,12 +41,6 @@ slice_bounds-share-end c =
     let w = pool-weights c.args.month.now c.requires.model g.new.out (omega (arith, g.array_long)) g.ensures.few g.ensures.weights in
     let l = length-set g.new.out g.result (10000 * c.args.month.now.basis.totals.area - c.args.month.now.basis.totals.unread) in
     sym (length-take-le (g.result + 1) _ (omega (arith, w.few, g.array_long, l)))
-
-pub slice_bounds-share-end-2 : goal.slice_bounds-share-end-2
-slice_bounds-share-end-2 c =
-    let g = c.gather-m in
-    let w = pool-weights c.args.month.now c.requires.model g.new.out (omega (arith, g.array_long)) g.ensures.few g.ensures.weights in
-    omega (arith, w.few)
 
 pub share-requires-clause-divides : goal.share-requires-clause-divides
 share-requires-clause-divides c =
@@ -92,5 +68,5 @@ returns-clause-shares c =
     let ws = unread_weights s ++ pool_weight s ∷ [] in
     let l = length-set g.new.out g.result (10000 * m.basis.totals.area - m.basis.totals.unread) in
     let many : length ws ≡ g.result + 1 = ap length (sym w.weights) ∙ length-take-le (g.result + 1) _ (omega (arith, w.few, g.array_long, l)) in
-    front_shares c.args.total (g.result + 1) ws c.share.new.out _ many (λ z. absurd (omega (arith, pool-positive s (month_accepted m)))) (c.share.ensures ∙ ap (shares c.args.total) w.weights)
+    front_shares c.args.total (g.result + 1) ws c.share.new.out _ many (λ z. absurd (omega (arith, pool-positive s (month_accepted m)))) (c.share.ensures ∙ ap (λ (l : List ℕ). shares c.args.total l ++ drop (length l) c.args.out.now) w.weights)
     ∙ ap (λ (t : ℕ). shares t ws) c.requires.asked.total-is

@@ -1,7 +1,7 @@
 use mathlib.Core.Path.{refl, sym}
 use native.Mathlib.Omega.{arith}
 use Rattle.sheet.specs.RuleSets.{newest}
-use Rattle.group.proofs.Lists.{residual_is}
+use Rattle.sheet.proofs.Rules.{handed}
 use Rattle.group.proofs.Surveys.{none-walked, one-refused, one-walked, all-walked}
 use Rattle.group.proofs.buildings.Group.survey.Goals as goal
 
@@ -12,7 +12,7 @@ pub returns-in_err-survey : goal.returns-in_err-survey
 returns-in_err-survey c =
     let g = c.args.self in
     let e = c.in_err-survey.field-0.0 in
-    let same = residual_is c.from_residual.result e c.from_residual.ensures.1 in
+    let same = handed c.from_residual.result e c.from_residual.ensures.1 in
     let own = one-refused newest g.sheets.now g.buildings.now c.loop-i.i (omega arith) e (sym c.in_err-survey.ensures) c.loop-i.invariant in
     record { answer = rw same (sym own); group = rw same tt; areas = rw same tt; commons = rw same tt }
 
