@@ -1,29 +1,33 @@
 -- Refusal 16: two lists of ids, item by item, and the book's building. Assumes nothing.
-use mathlib.Core.Path.{◌≡◌, refl, sym, ap, ap₂, ◌∙◌}
+use mathlib.Core.Path.{◌≡◌, refl, sym, ap, ap₂, subst, ◌∙◌}
 use mathlib.Core.Bool.{true, not, ◌&&◌}
 use mathlib.Core.List.{List, [], ◌∷◌, map}
-use Prim.Native.Nat.{ℕ, ◌+◌}
+use Prim.Native.Nat.{ℕ}
 use native.Mathlib.Omega.{arith}
 use native.Mathlib.Decide.{ℕ_discrete}
-use native.Mathlib.Numerals.{add-one}
 use lib.Dec.{eqb}
 use borrow.Author.Tests.{eq-eqb, ne_eqb}
-use lib.ListN.{length, get_or, take, drop}
-use lib.Seq.{drop-cons}
-use Rattle.std.proofs.Common.{drop_of_length-le}
-use Rattle.std.specs.List.{list_all, enumerate_from}
-use Rattle.sheet.specs.Layout.{Sheet}
+use lib.ListN.{length, take, drop}
+use Rattle.std.specs.List.{list_all, zip}
+use Rattle.std.proofs.lemmas.Iterator.{YieldsList}
+use Rattle.std.proofs.lemmas.Iterator.Consumers.{YieldsList-from_shown}
+use Rattle.sheet.specs.declared.row_views.Rows.{Rows}
+use Rattle.sheet.specs.Layout.{UnitRow, Sheet}
+use Rattle.sheet.specs.Inner.Views.{unit_in}
+use Rattle.sheet.specs.Inner.Rows.{rows_left, GivesRow}
 use Rattle.sheet.specs.Check.{same_list}
 use Rattle.yearbook.specs.LentBook.{ids_at, unit_count_in, other_building}
 
 -- ---- two lists are the same
--- f gives the second list's numbers
-pub by-places : (f : ℕ → ℕ) (ys : List ℕ) → ((i : ℕ) → get_or ys i 0 ≡ f i) → (xs : List ℕ) (i : ℕ) → length xs + i ≡ length ys
-    → list_all (λ p. eqb p.1 (f p.0)) (enumerate_from i xs) ≡ same_list xs (drop i ys)
-by-places f ys same [] i e = rw (drop_of_length-le ys {i = i} (omega arith))
-by-places f ys same (x ∷ xs) i e =
-    rw (drop-cons ys i 0 (omega arith), same i)
-    (ap (λ t. eqb x (f i) && t) (by-places f ys same xs (i + 1) (omega arith) ∙ ap (λ k. same_list xs (drop k ys)) (add-one i)))
+pub row_by_row : (xs : List ℕ) (us : List UnitRow) → length xs ≡ length us → list_all (λ (p : ℕ × UnitRow). eqb p.0 p.1.id) (zip xs us) ≡ same_list xs (map (λ u. u.id) us)
+row_by_row [] [] e = refl
+row_by_row [] (u ∷ us) e = absurd (omega arith)
+row_by_row (x ∷ xs) [] e = absurd (omega arith)
+row_by_row (x ∷ xs) (u ∷ us) e = ap (λ t. eqb x u.id && t) (row_by_row xs us (omega arith))
+
+-- what a walk over rows gives
+pub YieldsList-from_rows : {rows : Rows} (us : List UnitRow) → rows_left rows ≡ us → YieldsList GivesRow unit_in rows us
+YieldsList-from_rows {rows} us e = subst (λ us. YieldsList GivesRow unit_in rows us) e (YieldsList-from_shown GivesRow unit_in rows_left (λ s t g. ap length g.0) (λ s row t g. g.0) rows)
 
 pub eqb-sym : (x y : ℕ) → eqb x y ≡ eqb y x
 eqb-sym x y = elim (ℕ_discrete x y) [

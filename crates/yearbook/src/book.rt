@@ -20,8 +20,8 @@ fn same_ids(ids: &[u32], sheet: Sheet<'_>) -> bool
     ensures { result ≡ same_list ids.now (map (λ u. u.id) (sheet_of sheet.entry.bytes.now).units) }
 {
     ids.iter()
-        .enumerate()
-        .all(|(i, &id)| id == sheet.row(i).field(rows::Field::Id))
+        .zip(sheet.rows())
+        .all(|(&id, row)| id == row.field(rows::Field::Id))
 }
 
 impl<'a> Book<'a> {
