@@ -19,6 +19,16 @@ fn put_numbers(numbers: &[u32], to: &mut [u8])
     }
 }
 
+// By a loop: a copy of unknown length would want `memmove`, which no other call needs (include/heatcost.h).
+fn put_bytes(bytes: &[u8], to: &mut [u8])
+    requires { length to.old ≡ length bytes.now }
+    ensures { to.new ≡ bytes.now }
+{
+    for (i, &byte) in bytes.iter().enumerate() {
+        to[i] = byte;
+    }
+}
+
 // Head, sheet and statement into a list of their length.
 fn put_record(sheet: &[u8], numbers: &[u32], out: &mut [u8])
     requires { length out.old ≡ 8 + length sheet.now + 4 * length numbers.now }
@@ -27,7 +37,7 @@ fn put_record(sheet: &[u8], numbers: &[u32], out: &mut [u8])
     let (head, body) = out.split_at_mut(8);
     let (part, statement) = body.split_at_mut(sheet.len());
     head.copy_from_slice(&NEWEST_HEAD);
-    part.copy_from_slice(sheet);
+    put_bytes(sheet, part);
     put_numbers(numbers, statement);
 }
 

@@ -4,4 +4,4 @@ use Rattle.archive.proofs.writer.put_record.Goals as goal
 
 pub returns : goal.returns
 unfolding archive_record
-returns c = rw (c.copy_from_slice.ensures.after, c.copy_from_slice-2.ensures.after, c.put_numbers.ensures)
+returns c = rw (c.copy_from_slice.ensures.after, c.put_bytes.ensures, c.put_numbers.ensures)
