@@ -24,11 +24,12 @@
  * long as no list that one of them writes is used by another.
  *
  * Rules. Settling, alone or in a group, dividing charges, printing, writing a record, posting and replacing go by the
- * newest rules, those of archive version 2; reading a record goes by the rules of the record's own version, 1 or 2
- * (docs/FORMAT.md, "Archive versions").
+ * newest rules, those of archive version 3: wherever something is divided, what rounding leaves goes to the largest
+ * remainders, of equal ones to the larger weight, then to the earlier. Reading a record goes by the rules of the
+ * record's own version, 1, 2 or 3 (docs/FORMAT.md, "Archive versions").
  *
  * Memory. No call uses the heap: memcpy and memset are all that the library needs from outside (`nm -u`). A call takes
- * at most HEATCOST_STACK bytes of stack: settling 18,100, a group 20,000, charges 4,800; printing, writing or reading a
+ * at most HEATCOST_STACK bytes of stack: settling 18,100, a group 20,000, charges 4,900; printing, writing or reading a
  * record, posting and replacing 23,400; withdrawing 5,300; opening and the year call 500. `compare/run stack` measures
  * this on a painted stack. The caller's own frames come on top, and what the system needs: a thread's own block, a
  * first lookup of memcpy or memset.
@@ -202,11 +203,11 @@ uint32_t heatcost_fixed_charges(const uint8_t *sheet, size_t sheet_len, uint32_t
  * shorter list stays as it was. So NULL and 0 ask for the length alone. */
 uint64_t heatcost_print(const uint8_t *sheet, size_t sheet_len, uint8_t *text, size_t text_len);
 
-/* Writes the archive record of a sheet, of version 2. Refusals 1 to 12 with 20, then 13 unless record_len is
+/* Writes the archive record of a sheet, of version 3. Refusals 1 to 12 with 20, then 13 unless record_len is
  * HEATCOST_RECORD_LEN(n). */
 uint32_t heatcost_write_record(const uint8_t *sheet, size_t sheet_len, uint8_t *record, size_t record_len);
 
-/* Checks a record of version 1 or 2: 14 for its head, the sheet's refusals 1 to 12 with 20, 14 for a statement that
+/* Checks a record of version 1, 2 or 3: 14 for its head, the sheet's refusals 1 to 12 with 20, 14 for a statement that
  * isn't the sheet's by the version's rules. Accepted, the sheet is the record's bytes from 8 on,
  * heatcost_record_sheet_len of them; settled now it may come out otherwise. A change that leaves the settlement as it
  * is isn't found: this is no checksum. */

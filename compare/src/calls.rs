@@ -5,6 +5,7 @@ use crate::faults::spoil;
 use crate::rng::Rng;
 use crate::samples::{random_ids, random_sheet_of};
 use crate::sheet::build_sheet;
+use crate::tied::tie;
 
 /// A book call with its own arguments.
 #[derive(Clone, Debug)]
@@ -15,12 +16,17 @@ pub enum Call {
     Year(u32),
 }
 
-/// A random sheet of a building, for any month.
+/// A random sheet of a building, for any month; half of them with equal
+/// remainders.
 pub fn sheet_of_building(rng: &mut Rng, ids: &[u32]) -> Vec<u8> {
     let month = rng.between(1, 12) as u8;
     let model = rng.between(1, 5) as u8;
     let source = rng.below(4) as u8;
-    build_sheet(&random_sheet_of(rng, month, model, source, ids))
+    let mut sheet = random_sheet_of(rng, month, model, source, ids);
+    if rng.once_in(2) {
+        tie(rng, &mut sheet);
+    }
+    build_sheet(&sheet)
 }
 
 /// Mostly the building's own sheets; some damaged, some of another building.

@@ -56,6 +56,31 @@ pub fn case_c_by_risers(risers: [u32; 3]) -> Sheet {
     sheet
 }
 
+/// Request 2026-06: totals, and weights of which some or all leave equal
+/// remainders.
+pub const TIES: [(u32, &[u32]); 7] = [
+    (2, &[1, 3]),
+    (2, &[3, 1]),
+    (3, &[1, 3, 2]),
+    (8, &[1, 7, 4]),
+    (4, &[1, 3, 1, 3]),
+    (5, &[1, 3, 3, 3]),
+    (5, &[1, 2, 7, 4, 1]),
+];
+
+/// Request 2026-06: a month of model 4 that every archive version settles
+/// otherwise. By the limits the weights are as 1, 15, 5, and of 30 Wh the first
+/// two leave equal remainders.
+pub fn other_by_every_version() -> Sheet {
+    let mut sheet = case_c_by_risers([1, 2, 5]);
+    sheet.header.common_heat_percent = 0;
+    sheet.header.shared_meter_wh = 30;
+    for (unit, reading) in sheet.units.iter_mut().zip([0, 1_000, 0]) {
+        unit.reading = reading;
+    }
+    sheet
+}
+
 /// D: A, the first unit without a device.
 pub fn case_d() -> Sheet {
     let mut sheet = case_a();

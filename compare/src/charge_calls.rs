@@ -1,6 +1,6 @@
 //! Random calls of request 2026-05.
 
-use crate::charges::{fixed_charges, MAX_CHARGE, MODEL_1S, MODEL_2S};
+use crate::charges::{fixed_charges, weights, MAX_CHARGE, MODEL_1S, MODEL_2S};
 use crate::damage::{put, unit_count};
 use crate::faults::spoil;
 use crate::group_faults::spoil_sheet;
@@ -8,6 +8,7 @@ use crate::refusal::Refusal;
 use crate::rng::Rng;
 use crate::samples::random_sheet;
 use crate::sheet::{build_sheet, Sheet};
+use crate::tied::tied_total;
 
 /// What a call is given, and how long its list is.
 #[derive(Clone, Debug)]
@@ -80,7 +81,7 @@ pub fn random_charge_call(rng: &mut Rng) -> ChargeCall {
             _ => bytes = spoil_sheet(rng, &sheet),
         }
     }
-    let amounts = random_amounts(rng, sheet.units.len() as u64);
+    let amounts = random_amounts(rng, &weights(&sheet, model));
     let mut call = ChargeCall::of(bytes, model, amounts);
     for fault in faults {
         match fault {
@@ -109,15 +110,18 @@ fn shape_weights(rng: &mut Rng, sheet: &mut Sheet) {
     }
 }
 
-/// Often few cents a unit, so that remainders decide.
-fn random_amounts(rng: &mut Rng, units: u64) -> [u32; 3] {
+/// Often few cents a unit, so that remainders decide, or such that many are
+/// equal.
+fn random_amounts(rng: &mut Rng, weights: &[u64]) -> [u32; 3] {
     let nothing = rng.once_in(8);
     let limit = u64::from(MAX_CHARGE);
-    std::array::from_fn(|_| match rng.below(6) {
+    let units = weights.len() as u64;
+    std::array::from_fn(|_| match rng.below(9) {
         _ if nothing => 0,
         0 => 0,
         1 => MAX_CHARGE,
         2 | 3 => rng.below(3 * units + 2) as u32,
+        4..=6 => tied_total(rng, weights).min(limit) as u32,
         _ => rng.edge(0, limit) as u32,
     })
 }

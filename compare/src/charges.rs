@@ -2,6 +2,7 @@
 
 use crate::apportion::apportion;
 use crate::refusal::*;
+use crate::rules::NEWEST;
 use crate::sheet::{check, read_sheet, Sheet, ROW_BYTES};
 use crate::weights::{column, heat_load, heated_area};
 
@@ -26,7 +27,7 @@ pub fn fixed_charges(
     refuse_if(no_loads(&sheet, model), ZERO_DIVISOR)?;
     refuse_if(list_len != 3 * sheet.units.len(), BUFFER_LENGTH)?;
     let weights = weights(&sheet, model);
-    let columns = amounts.map(|amount| apportion(u64::from(amount), &weights));
+    let columns = amounts.map(|amount| apportion(u64::from(amount), &weights, NEWEST));
     Ok(unit_by_unit(columns))
 }
 
@@ -56,7 +57,7 @@ fn no_loads(sheet: &Sheet, model: u32) -> bool {
 }
 
 /// q under 1S, p under 2S.
-fn weights(sheet: &Sheet, model: u32) -> Vec<u64> {
+pub fn weights(sheet: &Sheet, model: u32) -> Vec<u64> {
     if model == MODEL_1S {
         column(sheet, heat_load)
     } else {

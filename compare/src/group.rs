@@ -2,7 +2,7 @@
 
 use crate::apportion::{apportion, wide_shares};
 use crate::refusal::*;
-use crate::rules::NEWEST;
+use crate::rules::{RuleSet, NEWEST};
 use crate::settle::{bill, check_month, common_heat, numbers};
 use crate::sheet::{check, read_sheet, Sheet, MAX_UNITS, MAX_WH, ROW_BYTES};
 use crate::weights::{heated_area, sum};
@@ -30,9 +30,11 @@ pub fn settle_group(
     let sheets = read_buildings(buffer, buildings)?;
     refuse_if(!same_month_and_price(&sheets), BAD_GROUP)?;
     refuse_if(list_len != 8 * unit_count(&sheets), BUFFER_LENGTH)?;
-    let shares = difference_shares(&sheets, shared_wh);
-    refuse_if(goes_below_zero(&sheets, &shares), NEGATIVE_COMMON_HEAT)?;
-    Ok(statements(&sheets, &shares, shared_wh))
+    let rules = NEWEST;
+    let shares = difference_shares(&sheets, shared_wh, rules);
+    let below_zero = goes_below_zero(&sheets, &shares, rules);
+    refuse_if(below_zero, NEGATIVE_COMMON_HEAT)?;
+    Ok(statements(&sheets, &shares, shared_wh, rules))
 }
 
 /// Settles a group into a list; a refused call leaves it.
@@ -113,18 +115,18 @@ pub fn total_area(sheet: &Sheet) -> u64 {
 
 /// The difference's size divided by the total areas, each share with the
 /// difference's sign.
-pub fn difference_shares(sheets: &[Sheet], shared_wh: u64) -> Vec<i64> {
+pub fn difference_shares(sheets: &[Sheet], shared_wh: u64, rules: RuleSet) -> Vec<i64> {
     let difference = difference(sheets, shared_wh);
     let areas: Vec<u64> = sheets.iter().map(total_area).collect();
-    wide_shares(difference.unsigned_abs(), &areas)
+    wide_shares(difference.unsigned_abs(), &areas, rules)
         .into_iter()
         .map(|share| difference.signum() * share as i64)
         .collect()
 }
 
 /// Step 2's common heat with the building's share of the difference.
-pub fn adjusted_common_heat(sheet: &Sheet, share: i64) -> i64 {
-    common_heat(sheet) as i64 + share
+pub fn adjusted_common_heat(sheet: &Sheet, share: i64, rules: RuleSet) -> i64 {
+    common_heat(sheet, rules) as i64 + share
 }
 
 /// M with the building's share of the difference.
@@ -133,25 +135,25 @@ pub fn adjusted_reading(sheet: &Sheet, share: i64) -> i64 {
 }
 
 /// Refusal 21.
-fn goes_below_zero(sheets: &[Sheet], shares: &[i64]) -> bool {
+fn goes_below_zero(sheets: &[Sheet], shares: &[i64], rules: RuleSet) -> bool {
     let mut buildings = sheets.iter().zip(shares);
-    buildings.any(|(sheet, &share)| adjusted_common_heat(sheet, share) < 0)
+    buildings.any(|(sheet, &share)| adjusted_common_heat(sheet, share, rules) < 0)
 }
 
 /// The shared bill by the sheets' price, over the adjusted readings, and each
 /// building's part within it.
-fn statements(sheets: &[Sheet], shares: &[i64], shared_wh: u64) -> Vec<u32> {
+fn statements(sheets: &[Sheet], shares: &[i64], shared_wh: u64, rules: RuleSet) -> Vec<u32> {
     let bill_cents = bill(shared_wh, sheets[0].header.price);
     let buildings = || sheets.iter().zip(shares);
     let readings: Vec<u64> = buildings()
         .map(|(sheet, &share)| adjusted_reading(sheet, share) as u64)
         .collect();
-    let parts = apportion(u64::from(bill_cents), &readings);
+    let parts = apportion(u64::from(bill_cents), &readings, rules);
     buildings()
         .zip(parts)
         .flat_map(|((sheet, &share), part)| {
-            let common_heat = adjusted_common_heat(sheet, share) as u64;
-            numbers(sheet, NEWEST, common_heat, part)
+            let common_heat = adjusted_common_heat(sheet, share, rules) as u64;
+            numbers(sheet, rules, common_heat, part)
         })
         .collect()
 }

@@ -94,8 +94,8 @@ fn spoil_place(rng: &mut Rng, group: &mut Group) {
         4 => (building.offset, building.length) = (end, 0),
         5 => (building.offset, building.length) = (u64::MAX, rng.below(3)),
         6 => building.length = u64::MAX - rng.below(3),
-        7 => building.offset += 1 << 32,
-        8 => building.length += 1 << 32,
+        7 => building.offset = building.offset.wrapping_add(1 << 32),
+        8 => building.length = building.length.wrapping_add(1 << 32),
         9 => (building.offset, building.length) = (1 << 63, 1 << 63),
         // The sum wraps to where the sheet ended.
         10 => {
@@ -103,7 +103,7 @@ fn spoil_place(rng: &mut Rng, group: &mut Group) {
             building.offset = u64::MAX - rng.below(1_000);
             building.length = end.wrapping_sub(building.offset);
         }
-        _ => building.offset = u64::MAX - building.length.min(end) + 1,
+        _ => building.offset = building.length.min(end).wrapping_neg(),
     }
 }
 

@@ -25,7 +25,7 @@ pub fn check_statements(
     require(all_cents, "cents add to the shared bill")?;
 
     let mut rest = &units[..];
-    let shares = difference_shares(sheets, shared_wh);
+    let shares = difference_shares(sheets, shared_wh, NEWEST);
     for ((sheet, share), exact) in sheets
         .iter()
         .zip(shares)

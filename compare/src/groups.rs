@@ -9,6 +9,7 @@ use crate::rules::NEWEST;
 use crate::samples::{random_ids, random_metered_sheet};
 use crate::settle::{common_heat, settle_sheet};
 use crate::sheet::{build_sheet, Header, Sheet, Unit, MAX_WH};
+use crate::tied::{round_price, tie, tied_total};
 
 /// What a group call is given, and how long its statement list is.
 #[derive(Clone, Debug)]
@@ -142,11 +143,12 @@ fn random_sheets(rng: &mut Rng) -> Vec<Sheet> {
         9 | 10 => rng.between(6, 11),
         _ => 12,
     };
-    let mut sheets = match rng.below(8) {
+    let mut sheets = match rng.below(12) {
         0..=3 => settled_sheets(rng, count, &[1, 2, 3, 4, 5]),
         4 | 5 => settled_sheets(rng, count, &[3, 4, 5]),
-        6 => common_by_area(rng, count),
-        _ => overlapping_pair(rng),
+        6 | 7 => common_by_area(rng, count),
+        8 => overlapping_pair(rng),
+        _ => tied_sheets(rng, count),
     };
     if sheets.len() > 1 && rng.once_in(6) {
         let place = rng.between(1, sheets.len() as u64 - 1) as usize;
@@ -192,14 +194,30 @@ fn settled_sheet(rng: &mut Rng, month: u8, models: &[u8], units: usize, highest:
     }
 }
 
+/// Sheets with equal remainders (request 2026-06).
+fn tied_sheets(rng: &mut Rng, count: u64) -> Vec<Sheet> {
+    let mut sheets = settled_sheets(rng, count, &[1, 2, 3, 4, 5]);
+    let price = round_price(rng);
+    for sheet in &mut sheets {
+        let mut tied = sheet.clone();
+        tie(rng, &mut tied);
+        if settle_sheet(&tied, NEWEST).is_ok() {
+            *sheet = tied;
+        }
+        sheet.header.price = price;
+    }
+    sheets
+}
+
 /// Model 5 with small readings or none: nearly all heat is common, and M goes
 /// by area or nearly so, so that nearly all of it can be taken away.
 fn common_by_area(rng: &mut Rng, count: u64) -> Vec<Sheet> {
     let month = rng.between(1, 12) as u8;
     let price = rng.edge(0, 100_000) as u32;
-    let equal = rng.once_in(2).then(|| rng.between(1, 10_000));
+    let highest = [12, 10_000][rng.below(2) as usize];
+    let equal = rng.once_in(2).then(|| rng.between(1, highest));
     let areas: Vec<u64> = (0..count)
-        .map(|_| equal.unwrap_or_else(|| rng.between(1, 10_000)))
+        .map(|_| equal.unwrap_or_else(|| rng.between(1, highest)))
         .collect();
     let largest = areas.iter().max().copied().unwrap_or(1);
     let scale = u64::from(MAX_WH) / largest / [1, 1, 30, 100_000][rng.below(4) as usize];
@@ -264,7 +282,7 @@ fn overlapping_pair(rng: &mut Rng) -> Vec<Sheet> {
 }
 
 /// A shared reading for sheets that settle: no difference, one above or below
-/// zero, one next to refusal 21, or any.
+/// zero, one next to refusal 21, one with equal remainders, or any.
 fn random_shared(rng: &mut Rng, sheets: &[Sheet]) -> u64 {
     let whole = u64::from(MAX_WH);
     let meters = sheets
@@ -273,7 +291,8 @@ fn random_shared(rng: &mut Rng, sheets: &[Sheet]) -> u64 {
     let sum: u64 = meters.sum();
     let room = whole.saturating_sub(sum);
     let most = most_taken(sheets);
-    let shared = match rng.below(12) {
+    let areas: Vec<u64> = sheets.iter().map(total_area).collect();
+    let shared = match rng.below(20) {
         0 => sum,
         1..=3 => {
             let highest = [10, 1_000, 1_000_000, whole][rng.below(4) as usize];
@@ -283,6 +302,10 @@ fn random_shared(rng: &mut Rng, sheets: &[Sheet]) -> u64 {
         5..=7 => (sum + 3).saturating_sub(most + rng.below(7)),
         8 | 9 => sum.saturating_sub(rng.edge(0, most)),
         10 => whole - rng.below(2),
+        11 => sum + tied_total(rng, &areas),
+        12..=14 => sum.saturating_sub(tied_total(rng, &areas)),
+        // The bill's remainders, at a round price.
+        15..=18 => (sum + rng.below(500)) / 100 * 100,
         _ => rng.edge(0, whole),
     };
     shared.min(whole)
@@ -292,7 +315,7 @@ fn random_shared(rng: &mut Rng, sheets: &[Sheet]) -> u64 {
 fn most_taken(sheets: &[Sheet]) -> u64 {
     let areas: u64 = sheets.iter().map(total_area).sum();
     let most = |sheet: &Sheet| {
-        let product = u128::from(common_heat(sheet)) * u128::from(areas);
+        let product = u128::from(common_heat(sheet, NEWEST)) * u128::from(areas);
         (product / u128::from(total_area(sheet))) as u64
     };
     sheets.iter().map(most).min().unwrap_or(0)
@@ -300,7 +323,7 @@ fn most_taken(sheets: &[Sheet]) -> u64 {
 
 /// Whether a group of sheets leaves a common heat of 0 where there was one.
 pub fn takes_all(sheets: &[Sheet], shared_wh: u64) -> bool {
-    let shares = difference_shares(sheets, shared_wh);
+    let shares = difference_shares(sheets, shared_wh, NEWEST);
     let mut buildings = sheets.iter().zip(shares);
-    buildings.any(|(sheet, share)| share < 0 && adjusted_common_heat(sheet, share) == 0)
+    buildings.any(|(sheet, share)| share < 0 && adjusted_common_heat(sheet, share, NEWEST) == 0)
 }

@@ -1,5 +1,5 @@
 //! An independent implementation of document 01 in plain Rust, with requests
-//! 2026-01 to 2026-05.
+//! 2026-01 to 2026-06.
 //!
 //! It was written from the documents alone and shares no code with the product.
 //! Nothing here is proved. It makes the stored vectors of the gate, and it is
@@ -11,7 +11,8 @@
 //!
 //! - `cargo run --release --bin division_vectors FOLDER`: "Dividing". A vector
 //!   is the count (16 bits), the total (32 bits) and the weights (64 bits
-//!   each); its line holds the shares.
+//!   each); its two lines hold the shares, with ties to the earlier item and with
+//!   ties to the larger weight.
 //! - `cargo run --release --bin sheet_vectors FOLDER`: refusals 1 to 7 and 20.
 //!   A vector is a length (16 bits) and that many bytes; its line is `0 0` or
 //!   number and place.
@@ -75,6 +76,8 @@ pub mod rules;
 pub mod samples;
 pub mod settle;
 pub mod sheet;
+pub mod tied;
+pub mod ties;
 pub mod vectors;
 pub mod weights;
 pub mod whole;

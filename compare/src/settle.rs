@@ -42,7 +42,7 @@ pub fn settle_sheet(sheet: &Sheet, rules: RuleSet) -> Result<Outcome, Refusal> {
         ids: sheet.units.iter().map(|unit| unit.id).collect(),
         shared_meter_wh,
         bill_cents,
-        numbers: numbers(sheet, rules, common_heat(sheet), bill_cents),
+        numbers: numbers(sheet, rules, common_heat(sheet, rules), bill_cents),
     })
 }
 
@@ -50,7 +50,7 @@ pub fn settle_sheet(sheet: &Sheet, rules: RuleSet) -> Result<Outcome, Refusal> {
 /// bill.
 pub fn numbers(sheet: &Sheet, rules: RuleSet, common_heat: u64, bill_cents: u32) -> Vec<u32> {
     let energies = energies(sheet, rules, common_heat);
-    statement(&energies, &costs(bill_cents, &energies))
+    statement(&energies, &costs(bill_cents, &energies, rules))
 }
 
 /// Per unit four Wh, four cents.
@@ -129,36 +129,36 @@ fn unmetered_exceeds(sheet: &Sheet) -> bool {
 }
 
 /// Divides `total` by (100 − percent, percent).
-fn split(total: u64, percent: u8) -> (u64, u64) {
+fn split(total: u64, percent: u8, rules: RuleSet) -> (u64, u64) {
     let percent = u64::from(percent);
-    let parts = apportion(total, &[100 - percent, percent]);
+    let parts = apportion(total, &[100 - percent, percent], rules);
     (u64::from(parts[0]), u64::from(parts[1]))
 }
 
 /// Step 2: units' heat and common heat.
-fn heat(sheet: &Sheet) -> (u64, u64) {
+fn heat(sheet: &Sheet, rules: RuleSet) -> (u64, u64) {
     if all_metered(sheet) {
         let metered = sum(&sheet.units, reading);
         return (metered, space_heat(sheet) - metered);
     }
     let percent = sheet.header.common_heat_percent;
-    split(space_heat(sheet), percent)
+    split(space_heat(sheet), percent, rules)
 }
 
 /// Step 2: common heat.
-pub fn common_heat(sheet: &Sheet) -> u64 {
-    heat(sheet).1
+pub fn common_heat(sheet: &Sheet, rules: RuleSet) -> u64 {
+    heat(sheet, rules).1
 }
 
 /// Steps 3 to 6: per unit heat, common heat, water, common water.
 fn energies(sheet: &Sheet, rules: RuleSet, common_heat: u64) -> Vec<[u32; 4]> {
-    let heat = heat_parts(sheet, heat(sheet).0, rules);
+    let heat = heat_parts(sheet, heat(sheet, rules).0, rules);
     let percent = sheet.header.common_water_percent;
-    let (unit_water, common_water) = split(hot_water_wh(sheet), percent);
+    let (unit_water, common_water) = split(hot_water_wh(sheet), percent, rules);
 
-    let common_heat = apportion(common_heat, &common_heat_weights(sheet));
-    let water = apportion(unit_water, &unit_water_weights(sheet));
-    let common_water = apportion(common_water, &common_water_weights(sheet));
+    let common_heat = apportion(common_heat, &common_heat_weights(sheet), rules);
+    let water = apportion(unit_water, &unit_water_weights(sheet), rules);
+    let common_water = apportion(common_water, &common_water_weights(sheet), rules);
     (0..sheet.units.len())
         .map(|i| [heat[i], common_heat[i], water[i], common_water[i]])
         .collect()
@@ -170,7 +170,7 @@ fn heat_parts(sheet: &Sheet, unit_heat: u64, rules: RuleSet) -> Vec<u32> {
         return sheet.units.iter().map(|unit| unit.reading).collect();
     }
     match sheet.header.model {
-        1 | 2 => apportion(unit_heat, &unmetered_model_weights(sheet)),
+        1 | 2 => apportion(unit_heat, &unmetered_model_weights(sheet), rules),
         _ => metered_heat_parts(sheet, unit_heat, rules),
     }
 }
@@ -181,12 +181,12 @@ fn metered_heat_parts(sheet: &Sheet, unit_heat: u64, rules: RuleSet) -> Vec<u32>
     let mut heat = vec![0; sheet.units.len()];
     let mut weights = unread_weights(sheet);
     weights.push(whole_weight(sheet) - weights.iter().sum::<u64>());
-    let mut parts = apportion(unit_heat, &weights);
+    let mut parts = apportion(unit_heat, &weights, rules);
     let metered_pool = parts.pop().expect("the pool is the last item");
     for (place, part) in unread_places(sheet).into_iter().zip(parts) {
         heat[place] = part;
     }
-    let parts = apportion(u64::from(metered_pool), &read_weights(sheet, rules));
+    let parts = apportion(u64::from(metered_pool), &read_weights(sheet, rules), rules);
     for (place, part) in read_places(sheet).into_iter().zip(parts) {
         heat[place] = part;
     }
@@ -201,9 +201,9 @@ pub fn bill(shared_meter_wh: u64, price: u32) -> u32 {
 }
 
 /// Step 7: the bill over the 4n energies, unit by unit.
-fn costs(bill_cents: u32, energies: &[[u32; 4]]) -> Vec<[u32; 4]> {
+fn costs(bill_cents: u32, energies: &[[u32; 4]], rules: RuleSet) -> Vec<[u32; 4]> {
     let weights: Vec<u64> = energies.iter().flatten().map(|&wh| u64::from(wh)).collect();
-    apportion(u64::from(bill_cents), &weights)
+    apportion(u64::from(bill_cents), &weights, rules)
         .chunks(4)
         .map(|four| [four[0], four[1], four[2], four[3]])
         .collect()

@@ -2,10 +2,12 @@
 
 use compare::apportion::apportion;
 use compare::rng::Rng;
+use compare::rules::RuleSet;
 
-/// Gives each unit of the leftover to the earliest item with the largest
-/// remainder that has none yet.
-fn one_by_one(total: u64, weights: &[u64]) -> Vec<u32> {
+/// Gives each unit of the leftover to the item with the largest remainder that
+/// has none yet; of equal ones, where the rules go by it, to that of the largest
+/// weight; of these to the earliest.
+fn one_by_one(total: u64, weights: &[u64], rules: RuleSet) -> Vec<u32> {
     let weight_sum: u128 = weights.iter().map(|&w| u128::from(w)).sum();
     if weight_sum == 0 {
         return vec![0; weights.len()];
@@ -22,7 +24,9 @@ fn one_by_one(total: u64, weights: &[u64]) -> Vec<u32> {
     while shares.iter().map(|&share| u64::from(share)).sum::<u64>() < total {
         let mut best = 0;
         for place in 1..open.len() {
-            if open[place] > open[best] {
+            let tied = open[place].is_some() && open[place] == open[best];
+            let heavier = rules.larger_first() && weights[place] > weights[best];
+            if open[place] > open[best] || tied && heavier {
                 best = place;
             }
         }
@@ -41,21 +45,25 @@ fn both_forms_agree() {
         let weights: Vec<u64> = (0..count).map(|_| rng.edge(0, highest)).collect();
         let highest_total = [5, 100, 4_000_000_000][rng.below(3) as usize];
         let total = rng.edge(0, highest_total);
-        let shares = apportion(total, &weights);
-        assert_eq!(shares, one_by_one(total, &weights));
-        if weights.iter().any(|&weight| weight > 0) {
-            let sum: u64 = shares.iter().map(|&share| u64::from(share)).sum();
-            assert_eq!(sum, total);
-        }
-        for (share, weight) in shares.iter().zip(&weights) {
-            assert!(*weight > 0 || *share == 0);
+        for rules in RuleSet::ALL {
+            let shares = apportion(total, &weights, rules);
+            assert_eq!(shares, one_by_one(total, &weights, rules));
+            if weights.iter().any(|&weight| weight > 0) {
+                let sum: u64 = shares.iter().map(|&share| u64::from(share)).sum();
+                assert_eq!(sum, total);
+            }
+            for (share, weight) in shares.iter().zip(&weights) {
+                assert!(*weight > 0 || *share == 0);
+            }
         }
     }
 }
 
 #[test]
 fn no_weight_gives_zeros() {
-    assert_eq!(apportion(0, &[0, 0]), [0, 0]);
-    assert_eq!(apportion(7, &[0, 0]), [0, 0]);
-    assert_eq!(apportion(0, &[]), []);
+    for rules in RuleSet::ALL {
+        assert_eq!(apportion(0, &[0, 0], rules), [0, 0]);
+        assert_eq!(apportion(7, &[0, 0], rules), [0, 0]);
+        assert_eq!(apportion(0, &[], rules), []);
+    }
 }

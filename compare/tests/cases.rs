@@ -85,8 +85,10 @@ fn cases_e_and_f() {
 
 #[test]
 fn cases_g_and_h() {
-    assert_eq!(apportion(10, &[1, 1, 1]), [4, 3, 3]);
-    assert_eq!(apportion(5, &[0, 3, 1]), [0, 4, 1]);
+    for rules in RuleSet::ALL {
+        assert_eq!(apportion(10, &[1, 1, 1], rules), [4, 3, 3]);
+        assert_eq!(apportion(5, &[0, 3, 1], rules), [0, 4, 1]);
+    }
 }
 
 #[test]
@@ -96,9 +98,12 @@ fn cases_i_and_j() {
         (water_by_summer([1_000; 6]), 1_150),
     ] {
         assert_eq!(hot_water_wh(&sheet), wh);
-        let outcome = settled(&sheet);
-        let water = outcome.numbers.chunks(8).map(|unit| unit[2] + unit[3]);
-        assert_eq!(u64::from(water.sum::<u32>()), wh);
+        // The heat beside J's water has a tie.
+        for rules in RuleSet::ALL {
+            let outcome = settle_sheet(&sheet, rules).expect("the case settles");
+            let water = outcome.numbers.chunks(8).map(|unit| unit[2] + unit[3]);
+            assert_eq!(u64::from(water.sum::<u32>()), wh);
+        }
     }
 }
 
@@ -112,7 +117,7 @@ fn cases_k_and_l() {
 fn case_c_as_model_4() {
     let mut by_readings_alone = case_c_by_risers([50, 50, 100]);
     by_readings_alone.header.base_percent = 0;
-    for (sheet, by_archive_1, by_archive_2) in [
+    for (sheet, by_archive_1, later) in [
         (
             case_c_by_risers([50, 50, 100]),
             [620_000, 60_000, 120_000],
@@ -135,7 +140,8 @@ fn case_c_as_model_4() {
         ),
     ] {
         assert_eq!(heats_by(RuleSet::Archive1, &sheet), by_archive_1);
-        assert_eq!(heats_by(RuleSet::Archive2, &sheet), by_archive_2);
+        assert_eq!(heats_by(RuleSet::Archive2, &sheet), later);
+        assert_eq!(heats_by(RuleSet::Archive3, &sheet), later);
     }
 }
 
@@ -144,10 +150,9 @@ fn limits_of_model_4_stand_before_the_location_factor() {
     // r is 300, 40 and 80 × 50 × B, the first weight half of it.
     let mut sheet = case_c_by_risers([50, 50, 100]);
     sheet.units[0].location_factor = 500;
-    assert_eq!(
-        heats_by(RuleSet::Archive2, &sheet),
-        [444_444, 118_519, 237_037]
-    );
+    for rules in [RuleSet::Archive2, RuleSet::Archive3] {
+        assert_eq!(heats_by(rules, &sheet), [444_444, 118_519, 237_037]);
+    }
 }
 
 #[test]
@@ -160,14 +165,14 @@ fn model_4_without_readings_has_no_limits() {
 
 #[test]
 fn entry_points_go_by_the_newest_rules() {
-    assert_eq!(NEWEST, RuleSet::Archive2);
-    let sheet = case_c_by_risers([50, 50, 100]);
+    assert_eq!(NEWEST, RuleSet::Archive3);
+    let sheet = other_by_every_version();
     let newest = settle_sheet(&sheet, NEWEST).unwrap();
     let bytes = build_sheet(&sheet);
     assert_eq!(settle_bytes(&bytes).as_ref(), Ok(&newest));
     assert_eq!(settle(&bytes, 24).as_ref(), Ok(&newest));
     let text = print_statement(&bytes);
-    assert!(text.contains("\n11 571429 "), "{text}");
+    assert!(text.contains("\n12 22 "), "{text}");
     let (mut book, mut sums) = (vec![0; BOOK_LEN], vec![0; SUMS_LEN]);
     book::open(&mut book, &mut sums, &bytes).unwrap();
     book::post(&mut book, &mut sums, &bytes).unwrap();

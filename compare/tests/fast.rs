@@ -11,14 +11,16 @@ use compare::rng::Rng;
 use compare::rules::RuleSet;
 use compare::samples::random_sheet;
 use compare::sheet::build_sheet;
+use compare::tied::{tied_sheet, tied_total};
 use compare::{apportion, fast, print, record, settle};
 
 fn random_bytes(rng: &mut Rng) -> Vec<u8> {
-    match rng.below(7) {
+    match rng.below(9) {
         0 => damaged_sheet(rng),
         1 => border_sheet(rng),
         2 => sheet_at_an_end(rng),
         3 => faulty_sheet(rng),
+        4 | 5 => tied_sheet(rng),
         _ => build_sheet(&random_sheet(rng)),
     }
 }
@@ -61,16 +63,16 @@ fn records() {
         let expected = record::write_record(&sheet, &mut plain);
         assert_eq!(fast::record::write(&sheet, &mut other), expected);
         assert_eq!(other, plain);
-        if let (0, Ok(record)) = (rng.below(3), record::record_of(&sheet, RuleSet::Archive1)) {
+        let rules = RuleSet::ALL[rng.below(3) as usize];
+        if let Ok(record) = record::record_of(&sheet, rules) {
             plain = record;
         }
         if expected.is_err() {
-            let rules = RuleSet::ALL[rng.below(2) as usize];
             plain = [&record::head(rules), &sheet[..]].concat();
             plain.resize(plain.len() + sheet.len().saturating_sub(48), 0);
         }
         if rng.once_in(4) {
-            plain[4] = rng.below(4) as u8;
+            plain[4] = rng.below(5) as u8;
         }
         if rng.once_in(4) {
             let place = rng.below(plain.len() as u64) as usize;
@@ -211,6 +213,25 @@ fn fixed_charges() {
     }
 }
 
+/// Both fast forms against the plain one, with ties by every rule.
+fn same_division(total: u64, weights: &[u64]) {
+    let count = weights.len();
+    let mut rest = vec![0; count];
+    for rules in RuleSet::ALL {
+        let expected = apportion::wide_shares(total, weights, rules);
+        let mut shares = vec![0u64; count];
+        fast::dividing::divide::<true>(total, weights, rules, &mut rest, &mut shares);
+        assert_eq!(shares, expected);
+        fast::dividing::divide::<false>(total, weights, rules, &mut rest, &mut shares);
+        assert_eq!(shares, expected);
+        if total < 1 << 32 {
+            let mut shares = vec![0u32; count];
+            fast::dividing::divide::<true>(total, weights, rules, &mut rest, &mut shares);
+            assert_eq!(shares, apportion::apportion(total, weights, rules));
+        }
+    }
+}
+
 #[test]
 fn divisions() {
     let mut rng = Rng::new(34);
@@ -218,19 +239,19 @@ fn divisions() {
         let count = rng.between(1, 40) as usize;
         let highest = [1, 3, 1_000, 4_000_000_000, 24_000_000_000_000_000][rng.below(5) as usize];
         let weights: Vec<u64> = (0..count).map(|_| rng.edge(0, highest)).collect();
-        let total = rng.edge(0, 4_000_000_000);
-        let expected = apportion::apportion(total, &weights);
-        let (mut rest, mut shares) = (vec![0; count], vec![0; count]);
-        fast::dividing::divide::<true>(total, &weights, &mut rest, &mut shares);
-        assert_eq!(shares, expected);
-        fast::dividing::divide::<false>(total, &weights, &mut rest, &mut shares);
-        assert_eq!(shares, expected);
-        let total = rng.edge(0, 48_000_000_000);
-        let expected = apportion::wide_shares(total, &weights);
-        let mut shares = vec![0u64; count];
-        fast::dividing::divide::<true>(total, &weights, &mut rest, &mut shares);
-        assert_eq!(shares, expected);
-        fast::dividing::divide::<false>(total, &weights, &mut rest, &mut shares);
-        assert_eq!(shares, expected);
+        same_division(rng.edge(0, 4_000_000_000), &weights);
+        same_division(rng.edge(0, 48_000_000_000), &weights);
+        same_division(tied_total(&mut rng, &weights), &weights);
+    }
+}
+
+#[test]
+fn long_divisions_with_ties() {
+    let mut rng = Rng::new(38);
+    for _ in 0..300 {
+        let count = rng.between(100, 640) as usize;
+        let highest = [4, 1_000, 100_000][rng.below(3) as usize];
+        let weights: Vec<u64> = (0..count).map(|_| rng.between(0, highest)).collect();
+        same_division(tied_total(&mut rng, &weights), &weights);
     }
 }

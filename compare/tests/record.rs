@@ -49,7 +49,7 @@ fn case_a_comes_back() {
     let sheet = build_sheet(&case_a());
     let record = written(&sheet, 3);
     assert_eq!(record.len(), 248);
-    assert_eq!(record[..8], [72, 67, 65, 0, 2, 0, 0, 0]);
+    assert_eq!(record[..8], [72, 67, 65, 0, 3, 0, 0, 0]);
     assert_eq!(record[8..152], sheet);
     assert_eq!(record[152..156], 116_000u32.to_le_bytes());
     assert_eq!(read_record(&record), accepted(3));
@@ -60,7 +60,8 @@ fn a_changed_head_or_statement_is_refused() {
     let record = written(&build_sheet(&case_a()), 3);
     for place in (0..8).chain(152..248) {
         let mut other = record.clone();
-        other[place] ^= 1;
+        // 3 with one of its bits gone would be an older version.
+        other[place] ^= if place == 4 { 4 } else { 1 };
         assert_eq!(read_record(&other), refused(14, 0), "byte {place}");
     }
 }
@@ -136,8 +137,10 @@ fn single_bits_of_case_a_that_are_not_found() {
             passed.push(bit / 8);
         }
     }
-    assert_eq!((8 * record.len(), passed.len()), (1984, 132));
-    // In the header month, source and f; in a row id, s and q.
+    assert_eq!((8 * record.len(), passed.len()), (1984, 134));
+    // Archive versions 1 and 2; in the header month, source and f; in a row id, s
+    // and q.
+    let passed = passed.strip_prefix(&[4, 4]).expect("the head comes first");
     let header = |place: usize| [6, 10, 14].contains(&place);
     let row = |place: usize| [0..4, 12..20].iter().any(|field| field.contains(&place));
     let named = |place: usize| header(place) || place >= 48 && row((place - 48) % 32);
@@ -146,26 +149,47 @@ fn single_bits_of_case_a_that_are_not_found() {
 
 #[test]
 fn numbers_are_those_of_the_archive_version_that_the_head_names() {
-    for risers in [[50, 50, 100], [0, 50, 100]] {
-        let sheet = case_c_by_risers(risers);
+    let tie = building(2, 2, &[(1, 0), (3, 0)]);
+    let limits: fn(RuleSet) -> bool = RuleSet::limits_risers;
+    let ties: fn(RuleSet) -> bool = RuleSet::larger_first;
+    // Which rules settle the sheet otherwise.
+    for (sheet, parted_by) in [
+        (case_c_by_risers([50, 50, 100]), &[limits][..]),
+        (case_c_by_risers([0, 50, 100]), &[limits]),
+        (tie, &[ties]),
+        (other_by_every_version(), &[limits, ties]),
+    ] {
+        let units = sheet.units.len();
         for numbers in RuleSet::ALL {
             for named in RuleSet::ALL {
-                let answer = read_record(&mixed(&sheet, numbers, named));
-                let expected = if named == numbers {
-                    accepted(3)
+                let alike = parted_by.iter().all(|rule| rule(numbers) == rule(named));
+                let expected = if alike {
+                    accepted(units)
                 } else {
                     refused(14, 0)
                 };
+                let answer = read_record(&mixed(&sheet, numbers, named));
                 assert_eq!(answer, expected, "{numbers:?} under {named:?}");
             }
         }
         let newest = mixed(&sheet, NEWEST, NEWEST);
-        assert_eq!(written(&build_sheet(&sheet), 3), newest);
+        assert_eq!(written(&build_sheet(&sheet), units), newest);
     }
 }
 
 #[test]
-fn numbers_that_do_not_differ_pass_under_both_heads() {
+fn a_month_that_every_version_settles_otherwise_passes_on_the_diagonal_only() {
+    let sheet = other_by_every_version();
+    for numbers in RuleSet::ALL {
+        for named in RuleSet::ALL {
+            let passes = read_record(&mixed(&sheet, numbers, named)) == accepted(3);
+            assert_eq!(passes, numbers == named, "{numbers:?} under {named:?}");
+        }
+    }
+}
+
+#[test]
+fn numbers_that_do_not_differ_pass_under_every_head() {
     for sheet in [case_a(), case_d(), good_sheet(4, 1), good_sheet(5, 3)] {
         for numbers in RuleSet::ALL {
             for named in RuleSet::ALL {
@@ -179,7 +203,7 @@ fn numbers_that_do_not_differ_pass_under_both_heads() {
 #[test]
 fn other_archive_versions_are_wrong_heads() {
     let mut record = written(&build_sheet(&case_a()), 3);
-    for version in [0, 3, 4, 256, 257, 258, 512, 513, 65_535] {
+    for version in [0, 4, 5, 256, 257, 258, 259, 512, 513, 65_535] {
         put(&mut record, (4, 2), version);
         assert_eq!(read_record(&record), refused(14, 0), "version {version}");
         // 14's head comes before the sheet.
@@ -188,7 +212,7 @@ fn other_archive_versions_are_wrong_heads() {
 }
 
 #[test]
-fn sheets_are_refused_alike_in_both_archive_versions() {
+fn sheets_are_refused_alike_in_every_archive_version() {
     let no_risers = case_c_by_risers([0, 0, 0]);
     let mut bad_row = case_c_by_risers([0, 50, 100]);
     bad_row.units[1].location_factor = 0;
@@ -211,10 +235,13 @@ fn sheets_are_refused_alike_in_both_archive_versions() {
 fn stored_records_are_read() {
     let stored = include_bytes!("../../crates/stored_record/stdin");
     let risers = case_c_by_risers([50, 50, 100]);
+    let tied = building(2, 1_000_004, &[(100, 0), (300, 0), (400, 0)]);
     let expected = [
         mixed(&case_a(), RuleSet::Archive1, RuleSet::Archive1),
         mixed(&risers, RuleSet::Archive1, RuleSet::Archive1),
         mixed(&risers, RuleSet::Archive2, RuleSet::Archive2),
+        mixed(&tied, RuleSet::Archive2, RuleSet::Archive2),
+        mixed(&tied, RuleSet::Archive3, RuleSet::Archive3),
     ];
     assert_eq!(stored[..], expected.concat());
     for record in stored.chunks(248) {

@@ -133,7 +133,11 @@ impl Books<'_> {
         sheet: &[u8],
         tally: &mut Tally,
     ) -> u32 {
-        tally.count_sheet(call, number, sheet);
+        if call == OPEN[0] {
+            tally.count_sheet(call, number, sheet);
+        } else {
+            tally.count_month(call, number, sheet);
+        }
         if number == BAD_YEAR_SUMS {
             let Lists { book, sums } = &self.theirs;
             let old = month.map_or(&[][..], |month| block(book, month as usize - 1));
@@ -170,7 +174,7 @@ fn same_numbers<T: PartialEq + Copy + Debug>(
 /// A book with sums, and calls on them: opened and kept as the calls leave
 /// them, or of random contents and written into between the calls.
 pub fn compare_book(side: &Side, rng: &mut Rng, tally: &mut Tally) -> Compared<()> {
-    let count = 1 + rng.below(4) as usize;
+    let count = 1 + rng.below(6) as usize;
     let ids = random_ids(rng, count);
     if rng.once_in(2) {
         return compare_opened_book(side, rng, &ids, tally);

@@ -2,6 +2,8 @@
 //! crate above holds these declarations to include/heatcost.h.
 
 use compare::group::Building;
+#[cfg(feature = "division")]
+use compare::rules::RuleSet;
 
 #[rustfmt::skip]
 extern "C" {
@@ -28,8 +30,11 @@ extern "C" {
 #[cfg(feature = "division")]
 #[rustfmt::skip]
 extern "C" {
-    fn division_apportion(
-        total: u64, weights: *const u64, n: usize, rests: *mut u64, m: usize, out: *mut u32, k: usize,
+    fn division_earlier(
+        total: u64, weights: *const u64, n: usize, scratch: *mut u64, m: usize, out: *mut u32, k: usize,
+    );
+    fn division_larger(
+        total: u64, weights: *const u64, n: usize, scratch: *mut u64, m: usize, out: *mut u32, k: usize,
     );
 }
 
@@ -153,17 +158,22 @@ pub fn year(book: &[u32], sums: &[u64], place: u32, totals: &mut [u64]) -> u32 {
     }
 }
 
-/// The division alone. The weights have a sum above 0.
+/// The division alone, with ties by the rules. The weights have a sum above 0.
 #[cfg(feature = "division")]
-pub fn divide(total: u64, weights: &[u64], rests: &mut [u64], out: &mut [u32]) {
-    assert!(rests.len() == weights.len() && out.len() == weights.len());
+pub fn divide(total: u64, weights: &[u64], rules: RuleSet, scratch: &mut [u64], out: &mut [u32]) {
+    assert!(scratch.len() == weights.len() && out.len() == weights.len());
+    let divide = if rules.larger_first() {
+        division_larger
+    } else {
+        division_earlier
+    };
     unsafe {
-        division_apportion(
+        divide(
             total,
             weights.as_ptr(),
             weights.len(),
-            rests.as_mut_ptr(),
-            rests.len(),
+            scratch.as_mut_ptr(),
+            scratch.len(),
             out.as_mut_ptr(),
             out.len(),
         )

@@ -9,6 +9,7 @@ use crate::groups::compare_group;
 use crate::inputs::{list_len, random_bytes, record_to_read};
 use crate::side::Side;
 use crate::tally::Tally;
+use crate::ways::Way;
 use compare::damage::unit_count;
 use compare::refusal::BUFFER_LENGTH;
 use compare::rng::Rng;
@@ -48,7 +49,7 @@ fn compare_settle(side: &Side, rng: &mut Rng, sheet: &[u8], tally: &mut Tally) -
     let expected = (side.settle)(sheet, &mut ours);
     let number = calls::settle(sheet, &mut theirs);
     same("settle", sheet, expected, number)?;
-    tally.count_sheet("settle", number, sheet);
+    tally.count_month("settle", number, sheet);
     same("settle: statement", sheet, ours, theirs)
 }
 
@@ -61,7 +62,7 @@ fn compare_write(side: &Side, rng: &mut Rng, sheet: &[u8], tally: &mut Tally) ->
     let number = calls::write_record(sheet, &mut theirs);
     same("write", sheet, expected, number)?;
     same("write: record", sheet, &ours, &theirs)?;
-    tally.count_sheet("write", number, sheet);
+    tally.count_month("write", number, sheet);
     Ok(theirs)
 }
 
@@ -71,6 +72,9 @@ fn compare_read(side: &Side, bytes: &[u8], tally: &mut Tally) -> Compared<()> {
     same("read", bytes, expected, number)?;
     let len = calls::record_sheet_len(bytes);
     tally.count_sheet("read", number, bytes.get(8..).unwrap_or(&[]));
+    if let Some(way) = Way::of_record(number, bytes) {
+        tally.count_way("read", way);
+    }
     same("read: sheet length", bytes, expected_len, len)
 }
 

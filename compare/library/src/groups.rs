@@ -31,7 +31,7 @@ pub fn compare_group(side: &Side, rng: &mut Rng, tally: &mut Tally) -> Compared<
     let input = group_bytes(&group);
     same("group", &input, expected, number)?;
     same("group: statements", &input, &ours, &theirs)?;
-    count(&group, number, tally);
+    count(&group, number, &theirs, tally);
     if number != 0 {
         return same("group: refused", &input, before, theirs);
     }
@@ -56,7 +56,7 @@ fn compare_alone(buffer: &[u8], building: &Building) -> Compared<()> {
 }
 
 /// Counts an answer that both sides gave, and its ways.
-fn count(group: &Group, number: u32, tally: &mut Tally) {
+fn count(group: &Group, number: u32, numbers: &[u32], tally: &mut Tally) {
     let (refusal, place) = (number % 256, number / 256);
     let sheet = match group.buildings.get(place as usize / 160) {
         Some(building) if (1..=20).contains(&refusal) && refusal != 13 => {
@@ -66,7 +66,7 @@ fn count(group: &Group, number: u32, tally: &mut Tally) {
         _ => &[],
     };
     tally.count_sheet("group", refusal + 256 * (place % 160), sheet);
-    for way in Way::of_group(number, group) {
+    for way in Way::of_group(number, group, numbers) {
         tally.count_way("group", way);
     }
 }

@@ -11,15 +11,17 @@ use compare::rules::RuleSet;
 use compare::samples::random_sheet;
 use compare::settle::settle_bytes;
 use compare::sheet::build_sheet;
+use compare::tied::tied_sheet;
 
 /// A sheet, good or bad, or any bytes.
 pub fn random_bytes(rng: &mut Rng) -> Vec<u8> {
-    match rng.below(19) {
+    match rng.below(22) {
         0..=5 => build_sheet(&random_sheet(rng)),
         6..=8 => border_sheet(rng),
         9..=11 => sheet_at_an_end(rng),
         12..=14 => damaged_sheet(rng),
         15..=17 => faulty_sheet(rng),
+        18..=20 => tied_sheet(rng),
         _ => (0..rng.below(200)).map(|_| rng.draw() as u8).collect(),
     }
 }
@@ -49,7 +51,7 @@ pub fn record_to_read(rng: &mut Rng, sheet: &[u8], written: Vec<u8>) -> Vec<u8> 
             let place = rng.below(record.len() as u64) as usize;
             record[place] ^= 1 << rng.below(8);
         }
-        2 if record.len() >= 8 => record[rng.below(8) as usize] = rng.below(3) as u8,
+        2 if record.len() >= 8 => record[rng.below(8) as usize] = rng.below(5) as u8,
         3 if record.len() >= 4 => {
             let last = record.len() - 1 - rng.below(4) as usize;
             record[last] ^= 1 << rng.below(8);
@@ -60,8 +62,8 @@ pub fn record_to_read(rng: &mut Rng, sheet: &[u8], written: Vec<u8>) -> Vec<u8> 
     record
 }
 
-/// Archive versions of wrong heads; two have the lower byte of a right one.
-const WRONG_VERSIONS: [u64; 6] = [0, 3, 256, 257, 258, 512];
+/// Archive versions of wrong heads; three have the lower byte of a right one.
+const WRONG_VERSIONS: [u64; 7] = [0, 4, 256, 257, 258, 259, 512];
 
 /// A settled sheet's record with the numbers of some archive version, under the
 /// head of some archive version or under a wrong one.
@@ -69,7 +71,7 @@ fn record_of_version(rng: &mut Rng, sheet: &[u8]) -> Vec<u8> {
     let mut record = record_of(sheet, random_rules(rng)).expect("the sheet settles");
     match rng.below(6) {
         0..=3 => record[..8].copy_from_slice(&head(random_rules(rng))),
-        4 => put(&mut record, (4, 2), WRONG_VERSIONS[rng.below(6) as usize]),
+        4 => put(&mut record, (4, 2), WRONG_VERSIONS[rng.below(7) as usize]),
         _ => {}
     }
     record

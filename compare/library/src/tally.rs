@@ -2,6 +2,7 @@
 //! where a refusal has several ways by these too.
 
 use crate::ways::Way;
+use compare::ties::of_sheet;
 
 pub const CALLS: [&str; 10] = [
     "settle", "write", "read", "open", "post", "replace", "withdraw", "year", "group", "charges",
@@ -44,6 +45,16 @@ impl Tally {
         self.count(call, answer);
         if let Some(way) = Way::of_sheet(answer, sheet) {
             self.count_way(call, way);
+        }
+    }
+
+    /// The same for a call that settles its sheet.
+    pub fn count_month(&mut self, call: &str, answer: u32, sheet: &[u8]) {
+        self.count_sheet(call, answer, sheet);
+        if answer == 0 {
+            for division in of_sheet(sheet) {
+                self.count_way(call, Way::Tie(division));
+            }
         }
     }
 

@@ -2,7 +2,8 @@
 //! (request 2026-03), 19 by what is wrong with the sums (request 2026-02), 22 by
 //! what is wrong with the group, and an accepted group by its difference
 //! (request 2026-04); 4, 9, 13 and accepted charges by the call (request
-//! 2026-05).
+//! 2026-05); accepted calls by the divisions in which the larger weight decides,
+//! and records by their version where it does (request 2026-06).
 
 use compare::book::SUMS_LEN;
 use compare::charge_calls::ChargeCall;
@@ -11,9 +12,12 @@ use compare::damage::unit_count;
 use compare::group::{difference, MAX_BUILDINGS};
 use compare::groups::{takes_all, Group};
 use compare::ranges::Range;
-use compare::refusal::{BAD_GROUP, BUFFER_LENGTH, FIELD_CONFLICT, HEADER_FIELD, ZERO_DIVISOR};
+use compare::record::{named_rules, record_of, HEAD_BYTES};
+use compare::refusal::*;
+use compare::rules::RuleSet;
 use compare::settle::settle_bytes;
-use compare::sheet::{read_sheet, row_fields, Sheet, MAX_WH};
+use compare::sheet::{read_sheet, row_fields, Sheet, HEADER_BYTES, MAX_WH};
+use compare::ties::{self, of_sheet, Division};
 
 #[derive(Clone, Copy, PartialEq)]
 pub enum Way {
@@ -48,7 +52,16 @@ pub enum Way {
     ByArea,
     /// A month that 8 to 12 refuse.
     NotSettled,
+    Tie(Division),
+    /// The same with a difference below 0.
+    DeficitTie,
+    /// A record of this version, of a month with a tie.
+    VersionTie(RuleSet),
+    /// The same with the numbers of the other rule for ties.
+    VersionOtherTie(RuleSet),
 }
+
+const OF_MONTHS: &[&str] = &["settle", "write", "post", "replace", "group"];
 
 const OF_GROUPS: [Way; 10] = [
     Way::GroupCount,
@@ -88,6 +101,10 @@ impl Way {
         ways.extend([Way::Length, Way::Below, Way::Lifted, Way::Past]);
         ways.extend(OF_GROUPS);
         ways.extend(OF_CHARGES);
+        ways.extend(Division::ALL.map(Way::Tie));
+        ways.push(Way::DeficitTie);
+        ways.extend(RuleSet::ALL.map(Way::VersionTie));
+        ways.extend(RuleSet::ALL.map(Way::VersionOtherTie));
         ways
     }
 
@@ -119,6 +136,10 @@ impl Way {
             Way::ByLoad => "0 by load".to_string(),
             Way::ByArea => "0 by area".to_string(),
             Way::NotSettled => "0 where 8 to 12 hold".to_string(),
+            Way::Tie(division) => format!("0 tie, {division:?}"),
+            Way::DeficitTie => "0 tie, below 0".to_string(),
+            Way::VersionTie(rules) => format!("0 tie, {rules:?}"),
+            Way::VersionOtherTie(rules) => format!("14 tie, {rules:?}"),
         }
     }
 
@@ -142,15 +163,23 @@ impl Way {
             Way::Below => &["replace", "withdraw"],
             Way::Lifted => &["replace"],
             Way::Past => &["post", "replace"],
+            Way::Tie(Division::Charge) => &["charges"],
+            Way::Tie(division) if division.is_of_month() => OF_MONTHS,
+            Way::VersionTie(_) | Way::VersionOtherTie(_) => &["read"],
             way if OF_CHARGES.contains(&way) => &["charges"],
             _ => &["group"],
         }
     }
 
     /// The ways of a group call that 22 refused or that was accepted.
-    pub fn of_group(answer: u32, group: &Group) -> Vec<Way> {
+    pub fn of_group(answer: u32, group: &Group, numbers: &[u32]) -> Vec<Way> {
         match answer {
-            0 => Way::of_difference(&sheets_of(group), group.shared_wh),
+            0 => {
+                let sheets = sheets_of(group);
+                let mut ways = Way::of_difference(&sheets, group.shared_wh);
+                ways.extend(Way::of_group_ties(&sheets, group.shared_wh, numbers));
+                ways
+            }
             BAD_GROUP => vec![Way::of_bad_group(group)],
             _ => Vec::new(),
         }
@@ -168,6 +197,16 @@ impl Way {
         }
         if takes_all(sheets, shared_wh) {
             ways.push(Way::TakesAll);
+        }
+        ways
+    }
+
+    fn of_group_ties(sheets: &[Sheet], shared_wh: u64, numbers: &[u32]) -> Vec<Way> {
+        let divisions = ties::of_group(sheets, shared_wh, numbers);
+        let below = difference(sheets, shared_wh) < 0;
+        let mut ways: Vec<Way> = divisions.iter().copied().map(Way::Tie).collect();
+        if below && divisions.contains(&Division::Difference) {
+            ways.push(Way::DeficitTie);
         }
         ways
     }
@@ -223,7 +262,26 @@ impl Way {
         if settle_bytes(&call.sheet).is_err() {
             ways.push(Way::NotSettled);
         }
+        ways.extend(ties::of_charges(call).into_iter().map(Way::Tie));
         ways
+    }
+
+    /// The way of a record that is accepted, or that 14 refuses for its numbers,
+    /// where they hang on the rule for ties.
+    pub fn of_record(answer: u32, record: &[u8]) -> Option<Way> {
+        let rules = named_rules(record)?;
+        let body = &record[HEAD_BYTES..];
+        let (sheet, statement) = body.split_at_checked((body.len() + HEADER_BYTES) / 2)?;
+        if !matches!(answer, 0 | BAD_ARCHIVE) || of_sheet(sheet).is_empty() {
+            return None;
+        }
+        if answer == 0 {
+            return Some(Way::VersionTie(rules));
+        }
+        let is_other = |other: &RuleSet| other.larger_first() != rules.larger_first();
+        let is_of = |other| record_of(sheet, other).is_ok_and(|r| r.ends_with(statement));
+        let mut others = RuleSet::ALL.into_iter().filter(is_other);
+        others.any(is_of).then_some(Way::VersionOtherTie(rules))
     }
 
     /// The way of a call that 4 or 20 refused, with its sheet; the charges' own 4

@@ -4,6 +4,7 @@ use super::dividing::divide;
 use super::rows::{checked_rows, Row};
 use crate::charges::{MAX_CHARGE, MODEL_1S, MODEL_2S};
 use crate::refusal::*;
+use crate::rules::NEWEST;
 
 /// Divides three amounts into a list of 3n numbers: the sheet's 1 to 7 with 20,
 /// then 4, 9, 13.
@@ -49,6 +50,7 @@ fn write<const N: usize, const RECIPROCAL: bool>(
         divide::<RECIPROCAL>(
             amount.into(),
             &weights[..count],
+            NEWEST,
             &mut remainders[..count],
             &mut column[..count],
         );

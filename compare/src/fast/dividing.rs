@@ -1,5 +1,7 @@
 //! "Dividing" with 128-bit products.
 
+use crate::rules::RuleSet;
+
 /// A share's type: 64 bits where the total has more than 32.
 pub trait Share: Copy {
     fn new(share: u64) -> Self;
@@ -66,6 +68,35 @@ impl<const RECIPROCAL: bool> Divider<RECIPROCAL> {
         let sum = u128::from(self.weight_sum);
         ((product / sum) as u64, (product % sum) as u64)
     }
+
+    /// The remainder again, from the quotient.
+    #[inline(always)]
+    fn rest(&self, weight: u64, quotient: u64) -> u64 {
+        let product = self.total.wrapping_mul(weight);
+        product.wrapping_sub(quotient.wrapping_mul(self.weight_sum))
+    }
+
+    /// One more for each remainder above the threshold and, at it, for each key
+    /// above the last one and so many earliest of this key. The keys are the
+    /// weights, or all 0.
+    #[inline(always)]
+    fn hand_out<const BY_WEIGHT: bool>(
+        &self,
+        threshold: u64,
+        (last_key, mut left): (u64, usize),
+        weights: &[u64],
+        shares: &mut [impl Share],
+    ) {
+        for (&weight, share) in weights.iter().zip(shares) {
+            let rest = self.rest(weight, share.get());
+            let key = if BY_WEIGHT { weight } else { 0 };
+            let tied = rest == threshold;
+            let spared = tied && key == last_key && left > 0;
+            left -= usize::from(spared);
+            let more = rest > threshold || tied && key > last_key || spared;
+            *share = Share::new(share.get() + u64::from(more));
+        }
+    }
 }
 
 /// Divides `total` by `weights`, whose sum is below 2^63. `remainders` is
@@ -73,6 +104,7 @@ impl<const RECIPROCAL: bool> Divider<RECIPROCAL> {
 pub fn divide<const RECIPROCAL: bool>(
     total: u64,
     weights: &[u64],
+    rules: RuleSet,
     remainders: &mut [u64],
     shares: &mut [impl Share],
 ) {
@@ -90,29 +122,40 @@ pub fn divide<const RECIPROCAL: bool>(
         leftover -= quotient;
     }
     if leftover > 0 {
-        give(leftover as usize, divider, weights, remainders, shares);
+        let leftover = leftover as usize;
+        give(leftover, divider, weights, rules, remainders, shares);
     }
 }
 
-/// One more for each of the `leftover` largest remainders, ties to the
-/// earlier. The selection moves the remainders about, so that they are taken
-/// again from the weights.
+/// One more for each of the `leftover` largest remainders, ties by the rules.
+/// The selections move the remainders about, so that they are taken again from
+/// the weights.
 fn give<const RECIPROCAL: bool>(
     leftover: usize,
     divider: Divider<RECIPROCAL>,
     weights: &[u64],
+    rules: RuleSet,
     remainders: &mut [u64],
     shares: &mut [impl Share],
 ) {
-    let (larger, &mut threshold, _) =
-        remainders.select_nth_unstable_by(leftover - 1, |a, b| b.cmp(a));
-    let above = larger.iter().filter(|&&rest| rest > threshold).count();
-    let mut at_threshold = leftover - above;
-    for (&weight, share) in weights.iter().zip(shares) {
-        let product = divider.total.wrapping_mul(weight);
-        let rest = product.wrapping_sub(share.get().wrapping_mul(divider.weight_sum));
-        let spared = rest == threshold && at_threshold > 0;
-        at_threshold -= usize::from(spared);
-        *share = Share::new(share.get() + u64::from(rest > threshold || spared));
+    let (threshold, left) = select(remainders, leftover);
+    let tied = |list: &[u64]| list.iter().filter(|&&rest| rest == threshold).count();
+    if !rules.larger_first() || tied(remainders) == left {
+        return divider.hand_out::<false>(threshold, (0, left), weights, shares);
     }
+    let mut count = 0;
+    for (&weight, share) in weights.iter().zip(&*shares) {
+        remainders[count] = weight;
+        count += usize::from(divider.rest(weight, share.get()) == threshold);
+    }
+    let last = select(&mut remainders[..count], left);
+    divider.hand_out::<true>(threshold, last, weights, shares);
+}
+
+/// The smallest of the `count` largest, and how many of these are equal to it.
+#[inline(always)]
+fn select(list: &mut [u64], count: usize) -> (u64, usize) {
+    let (larger, &mut smallest, _) = list.select_nth_unstable_by(count - 1, |a, b| b.cmp(a));
+    let above = larger.iter().filter(|&&value| value > smallest).count();
+    (smallest, count - above)
 }

@@ -95,6 +95,7 @@ impl<'a> Group<'a> {
         divide::<RECIPROCAL>(
             shared_wh.abs_diff(self.readings_sum),
             &areas[..count],
+            NEWEST,
             &mut rests[..count],
             &mut shares[..count],
         );
@@ -125,6 +126,7 @@ impl<'a> Group<'a> {
         divide::<RECIPROCAL>(
             bill_cents(shared_wh, self.price),
             &adjusted.readings[..self.count],
+            NEWEST,
             &mut rests[..self.count],
             &mut parts[..self.count],
         );

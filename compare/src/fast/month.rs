@@ -98,7 +98,7 @@ impl<'a> Month<'a> {
         statement: &mut [u32],
     ) {
         let count = self.rows.len();
-        let mut energies = Columns::<N>::new();
+        let mut energies = Columns::<N>::new(self.rules);
         self.energies::<N, RECIPROCAL>(common_heat, &mut energies);
 
         let mut weights = [[0u64; 4]; N];
@@ -110,6 +110,7 @@ impl<'a> Month<'a> {
         divide::<RECIPROCAL>(
             bill_cents,
             weights[..count].as_flattened(),
+            self.rules,
             remainders[..count].as_flattened_mut(),
             cents[..count].as_flattened_mut(),
         );
@@ -235,16 +236,18 @@ impl<'a> Month<'a> {
     }
 }
 
-/// The four columns of energies, and scratch for a division.
+/// The four columns of energies, and scratch for a division by the rules.
 struct Columns<const N: usize> {
+    rules: RuleSet,
     shares: [[u32; N]; 4],
     weights: [u64; N],
     remainders: [u64; N],
 }
 
 impl<const N: usize> Columns<N> {
-    fn new() -> Self {
+    fn new(rules: RuleSet) -> Self {
         Columns {
+            rules,
             shares: [[0; N]; 4],
             weights: [0; N],
             remainders: [0; N],
@@ -269,6 +272,7 @@ impl<const N: usize> Columns<N> {
         divide::<RECIPROCAL>(
             total,
             &self.weights[..count],
+            self.rules,
             &mut self.remainders[..count],
             &mut self.shares[column][..count],
         );
@@ -283,6 +287,7 @@ impl<const N: usize> Columns<N> {
         divide::<RECIPROCAL>(
             total,
             &self.weights[..count],
+            self.rules,
             &mut self.remainders[..count],
             &mut shares[..count],
         );
@@ -295,7 +300,8 @@ pub fn bill_cents(shared_meter_wh: u64, price: u64) -> u64 {
 }
 
 /// Divided by (100 − percent, percent): of two remainders the larger gets the
-/// one that is left, the units' on a tie.
+/// one that is left, the units' on a tie: they come first, and a percent is at
+/// most 50.
 fn split(total: u64, percent: u64) -> (u64, u64) {
     let units = (total * (100 - percent) + 50) / 100;
     (units, total - units)

@@ -12,6 +12,7 @@ use compare::rng::Rng;
 use compare::rules::RuleSet;
 use compare::samples::{random_ids, random_sheet};
 use compare::sheet::build_sheet;
+use compare::tied::tied_sheet;
 use std::fmt::Debug;
 
 fn same(copy: impl Debug, plain: impl Debug) {
@@ -19,11 +20,12 @@ fn same(copy: impl Debug, plain: impl Debug) {
 }
 
 fn random_bytes(rng: &mut Rng) -> Vec<u8> {
-    match rng.below(5) {
+    match rng.below(6) {
         0 => build_sheet(&random_sheet(rng)),
         1 => border_sheet(rng),
         2 => sheet_at_an_end(rng),
         3 => faulty_sheet(rng),
+        4 => tied_sheet(rng),
         _ => damaged_sheet(rng),
     }
 }
@@ -60,9 +62,9 @@ fn sheets_texts_and_records() {
             compare::print::print_into(&sheet, &mut plain_text),
         );
         assert_eq!(text, plain_text);
-        let rules = RuleSet::ALL[rng.below(2) as usize];
+        let rules = RuleSet::ALL[rng.below(3) as usize];
         plain = record_of(&sheet, rules).unwrap_or_else(|_| before_zeros(rules, &sheet));
-        plain[4] ^= [0, 0, 0, 3][rng.below(4) as usize];
+        plain[4] ^= [0, 0, 0, 1, 2, 3, 4][rng.below(7) as usize];
         let place = rng.below(plain.len() as u64) as usize;
         plain[place] ^= rng.below(2) as u8;
         same(

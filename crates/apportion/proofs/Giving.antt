@@ -2,18 +2,19 @@
 use mathlib.Core.Path.{◌≡◌, refl, sym, ap, ap₂, ◌∙◌}
 use mathlib.Core.Bool.{Bool, true, false}
 use mathlib.Core.List.{List, [], ◌∷◌}
-use Prim.Native.Nat.{ℕ, zero, suc, ◌+◌, ◌-◌, ◌≤◌}
+use mathlib.Core.Logic.{inl, inr}
+use Prim.Native.Nat.{ℕ, zero, suc, ◌+◌, ◌-◌, ◌≤◌, min}
 use native.Mathlib.Omega.{arith}
 use borrow.Author.Tests.{eq-eqb, ne_eqb}
 use lib.Dec.{ltb, eqb}
 use lib.ListN.{get_or}
-use Rattle.apportion.specs.Shares.{bit, extras, added}
+use Rattle.apportion.specs.Shares.{bit, at_least, extras, added}
 use Rattle.apportion.specs.Inner.Selection.{Cuts, one, spare_after, given, tie, ties}
-use Rattle.apportion.proofs.Counting.{bit-min}
-use Rattle.apportion.proofs.Takers.{case, above, level, under, one_le, extras-given}
+use Rattle.apportion.proofs.Counting.{bit-cases, bit-min}
+use Rattle.apportion.proofs.Takers.{case, above, level, under, extras-given}
 
 -- ---- with none to spare only the keys above get one
-pub given_above : (θ k : ℕ) (ks : List ℕ) → given θ 0 (k ∷ ks) ≡ bit (ltb θ k) ∷ given θ 0 ks
+given_above : (θ k : ℕ) (ks : List ℕ) → given θ 0 (k ∷ ks) ≡ bit (ltb θ k) ∷ given θ 0 ks
 given_above θ k ks =
     elim (case θ 0 k) [
       | above h p q e f ↦ ap₂ (λ (x s : ℕ). x ∷ given θ s ks) (e ∙ sym q) f
@@ -21,12 +22,14 @@ given_above θ k ks =
       | under h p q e f ↦ ap₂ (λ (x s : ℕ). x ∷ given θ s ks) (e ∙ sym q) f
     ]
 
--- no item gets more than one
-pub one_each : (θ s : ℕ) (xs ks : List ℕ) (j : ℕ) → get_or (added xs (given θ s ks)) j 0 ≤ get_or xs j 0 + 1
-one_each θ s [] ks j = omega arith
-one_each θ s (x ∷ xs) [] j = omega arith
-one_each θ s (x ∷ xs) (k ∷ ks) zero = omega (arith, one_le θ s k)
-one_each θ s (x ∷ xs) (k ∷ ks) (suc j) = one_each θ (spare_after θ s k) xs ks j
+-- no item gets more than one, nor any where no key is above
+pub one_each : (θ : ℕ) (xs ks : List ℕ) (j : ℕ) → get_or (added xs (given θ 0 ks)) j 0 ≤ get_or xs j 0 + min 1 (at_least (suc θ) ks)
+one_each θ [] ks j = omega arith
+one_each θ (x ∷ xs) [] j = omega arith
+one_each θ (x ∷ xs) (k ∷ ks) zero =
+    let g = ap (λ (gs : List ℕ). get_or (added (x ∷ xs) gs) 0 0) (given_above θ k ks) in
+    elim (bit-cases (suc θ) k) [ inl a ↦ omega (arith, a, g) | inr a ↦ omega (arith, a, g) ]
+one_each θ (x ∷ xs) (k ∷ ks) (suc j) = omega (arith, ap (λ (gs : List ℕ). get_or (added (x ∷ xs) gs) (suc j) 0) (given_above θ k ks), one_each θ xs ks j)
 
 -- ---- ties
 tie_none : (b : Bool) → tie b 0 ≡ 0
@@ -47,7 +50,6 @@ both θ s k =
       | under h p q e f ↦ omega (arith, ap (λ (b : Bool). tie b s) (ne_eqb k θ (λ z. omega arith)))
     ]
 
--- THE TWO PASSES GIVE WHAT IS GIVEN IN ONE
 above-then-ties : (θ s : ℕ) (xs ks : List ℕ) → added (added xs (given θ 0 ks)) (ties θ s ks) ≡ added xs (given θ s ks)
 above-then-ties θ s [] ks = refl
 above-then-ties θ s (x ∷ xs) [] = refl
@@ -57,11 +59,10 @@ above-then-ties θ s (x ∷ xs) (k ∷ ks) =
     ∙ ap₂ (λ (y : ℕ) (ys : List ℕ). y ∷ ys) {x = x + bit (ltb θ k) + t} {y = x + one θ s k} (omega (arith, (both θ s k).0))
     (above-then-ties θ (s - t) xs ks ∙ ap (λ (r : ℕ). added xs (given θ r ks)) (both θ s k).1)
 
-pub leftover_given : (left θ spare : ℕ) (ks out : List ℕ) {mid last : List ℕ} → Cuts left θ spare ks
-    → mid ≡ added out (given θ 0 ks) → last ≡ added mid (ties θ spare ks) → last ≡ added out (extras left [] ks)
-leftover_given left θ spare ks out h m l =
-    l
-    ∙ ap (λ (xs : List ℕ). added xs (ties θ spare ks)) m
-    ∙ above-then-ties θ spare out ks
-    ∙ ap (λ (x : ℕ). added out (given θ x ks)) h.1
-    ∙ ap (added out) (sym (extras-given left θ ks h.0))
+-- THE TWO PASSES GIVE WHAT IS GIVEN IN ONE
+pub two_passes : (θ spare : ℕ) (ks out : List ℕ) {mid last : List ℕ} → mid ≡ added out (given θ 0 ks) → last ≡ added mid (ties θ spare ks) → last ≡ added out (given θ spare ks)
+two_passes θ spare ks out m l = l ∙ ap (λ (xs : List ℕ). added xs (ties θ spare ks)) m ∙ above-then-ties θ spare out ks
+
+-- AND THAT IS THE LEFTOVER
+pub leftover_given : (left θ spare : ℕ) (ks : List ℕ) → Cuts left θ spare ks → given θ spare ks ≡ extras left [] ks
+leftover_given left θ spare ks h = ap (λ (x : ℕ). given θ x ks) h.1 ∙ sym (extras-given left θ ks h.0)

@@ -3,31 +3,38 @@ use mathlib.Core.Path.{◌≡◌, refl, sym, ap, ap₂, ◌∙◌}
 use mathlib.Core.List.{List, [], ◌∷◌, map}
 use mathlib.Core.Logic.{inl, inr}
 use Prim.Native.Nat.{ℕ, zero, suc, ◌+◌, ◌*◌, ◌/◌, ◌%◌, ◌≤◌, ◌<◌, min}
-use native.Mathlib.Nat.{add-mul, mul-zero, zero-mul, zero-div, zero-mod, one-mul, div-add-mod', mod-lt}
+use native.Mathlib.Nat.{add-mul, mul-le-mul_right, mul-zero, zero-mul, zero-div, zero-mod, one-mul, div-add-mod', mod-lt}
 use native.Mathlib.Decide.{dec_lt}
 use native.Mathlib.Omega.{arith}
 use lib.ListN.{length, get_or, length-map, replicate}
-use Rattle.apportion.specs.Shares.{sum, quota, quotas, remainder, leftover, at_least, extras, added, Key, shares_by, shares}
-use Rattle.apportion.specs.Fair.{Fair, RanksRemainders, EveryDivisionIsFair}
+use Rattle.apportion.specs.declared.tie_rule.TieRule.{TieRule}
+use Rattle.apportion.specs.declared.tie_rule.TieRule.TheVariants.{EarlierFirst, LargerFirst}
+use Rattle.apportion.specs.Shares.{sum, quota, quotas, remainder, leftover, at_least, extras, added, Key, shares_by, remainder_then_weight, key_by}
+use Rattle.apportion.specs.Fair.{RanksRemainders, EveryDivisionIsFair, SharesAreFair, LargerWeightFirst}
 use Rattle.apportion.proofs.Counting.{bit-yes, bit_no, bit-cases, antitone}
 use Rattle.apportion.proofs.Takers.{sum-extras, length-extras}
 use Rattle.apportion.proofs.Leftover.{length-added, sum_added, get_d_added, item_le, get_or-map, quotas_le, leftover_le, leftover-fits}
 
 -- ---- nothing to divide
-pub all-zero : (f : ℕ → ℕ) → ((w : ℕ) → f w ≡ 0) → (ws : List ℕ) → map f ws ≡ replicate (length ws) 0
+all-zero : (f : ℕ → ℕ) → ((w : ℕ) → f w ≡ 0) → (ws : List ℕ) → map f ws ≡ replicate (length ws) 0
 all-zero f z [] = refl
 all-zero f z (w ∷ ws) = ap₂ (λ (x : ℕ) (xs : List ℕ). x ∷ xs) (z w) (all-zero f z ws)
 
 quota-zero : (whole w : ℕ) → quota 0 whole w ≡ 0
 quota-zero whole w = ap (λ (x : ℕ). x / whole) (zero-mul w) ∙ zero-div whole
 
-pub remainder-zero : (whole w : ℕ) → remainder 0 whole w ≡ 0
-remainder-zero whole w = ap (λ (x : ℕ). x % whole) (zero-mul w) ∙ zero-mod whole
-
-pub no_extras : (earlier later : List ℕ) → extras 0 earlier later ≡ replicate (length later) 0
+no_extras : (earlier later : List ℕ) → extras 0 earlier later ≡ replicate (length later) 0
 no_extras earlier [] = refl
 no_extras earlier (k ∷ later) =
     ap₂ (λ (x : ℕ) (xs : List ℕ). x ∷ xs) (bit_no (suc (at_least k earlier + at_least (suc k) later)) 0 (omega arith)) (no_extras (k ∷ earlier) later)
+
+pub added_none : (xs ys : List ℕ) → added xs (extras 0 [] ys) ≡ xs
+added_none xs ys = ap (added xs) (no_extras [] ys) ∙ zeros xs (length ys)
+  where
+    zeros : (xs : List ℕ) (n : ℕ) → added xs (replicate n 0) ≡ xs
+    zeros [] n = refl
+    zeros (x ∷ xs) ℕ.zero = refl
+    zeros (x ∷ xs) (suc n) = ap₂ (λ (y : ℕ) (ys : List ℕ). y ∷ ys) {y = x} (omega arith) (zeros xs n)
 
 added-zeros : (n : ℕ) → added (replicate n 0) (replicate n 0) ≡ replicate n 0
 added-zeros zero = refl
@@ -81,7 +88,7 @@ module _ (key : Key) (ranks : RanksRemainders key) (total whole : ℕ) where
         | inr a ↦ omega arith
       ]
 
-  extra_le : (left : ℕ) (es ws : List ℕ) (i : ℕ) → ((j : ℕ) → get_or ws j 0 ≤ whole)
+  pub extra_le : (left : ℕ) (es ws : List ℕ) (i : ℕ) → ((j : ℕ) → get_or ws j 0 ≤ whole)
       → left ≤ at_least 1 (map (remainder total whole) es) + at_least 1 (map (remainder total whole) ws)
       → get_or (extras left (map (key total whole) es) (map (key total whole) ws)) i 0 ≤ min 1 (remainder total whole (get_or ws i 0))
   extra_le left es [] i b h = omega arith
@@ -147,9 +154,31 @@ every_division_is_fair key ranks total ws h =
       within-total = most;
     }
 
--- ---- the key of document 01
-pub remainder_ranks : RanksRemainders remainder
-remainder_ranks total whole v w h z p = omega arith
+-- ---- both rules for ties
+-- where the remainders are in order, so are the pairs
+pairs_in_order : (total whole v w : ℕ) → w ≤ whole → remainder total whole w < remainder total whole v → remainder_then_weight total whole w < remainder_then_weight total whole v
+pairs_in_order total whole v w h r =
+    omega (arith, mul-le-mul_right (whole + 1) r, add-mul (remainder total whole w) 1 (whole + 1), one-mul (whole + 1))
 
-pub shares-fair : (total : ℕ) (ws : List ℕ) → (sum ws ≡ 0 → total ≡ 0) → Fair total ws (shares total ws)
-shares-fair total ws h = every_division_is_fair remainder remainder_ranks total ws h
+pub larger_weight_first : LargerWeightFirst
+larger_weight_first total whole v w hv hw =
+    let r = remainder total whole in
+    let level : r w ≡ r v → r w * (whole + 1) ≡ r v * (whole + 1) = ap (λ (x : ℕ). x * (whole + 1)) in record {
+      if = λ h. elim h [ inl a ↦ pairs_in_order total whole v w hw a | inr a ↦ omega (arith, level a.0) ];
+      only_if_lem = λ h.
+          elim (dec_lt (r w) (r v)) [
+            | yes a ↦ inl a
+            | no a ↦
+                elim (dec_lt (r v) (r w)) [
+                  | yes b ↦ absurd (omega (arith, pairs_in_order total whole w v hv b))
+                  | no b ↦ let e : r w ≡ r v = omega arith in inr (e, omega (arith, level e))
+                ]
+          ];
+    }
+
+pub key_ranks : (ties : TieRule) → RanksRemainders (key_by ties)
+key_ranks EarlierFirst total whole v w h z p = omega arith
+key_ranks LargerFirst total whole v w h z p = pairs_in_order total whole v w h (omega arith)
+
+pub shares-fair : SharesAreFair
+shares-fair ties total ws h = every_division_is_fair (key_by ties) (key_ranks ties) total ws h

@@ -9,7 +9,7 @@ use lib.Dec.{leb, ltb}
 use lib.ListN
 use lib.ListN.{length, get_or, take, length-map}
 use Rattle.std.specs.Int.{from_bool}
-use Rattle.apportion.specs.Shares.{bit, sum, at_least, added, quota, remainder, remainders, leftover}
+use Rattle.apportion.specs.Shares.{bit, sum, at_least, added, quota, remainder, leftover}
 use Rattle.apportion.specs.Inner.Selection.{largest, RoundedDown}
 use Rattle.apportion.proofs.Counting.{bit-cases, bit-from_bool, antitone, at_zero, count_snoc}
 
@@ -42,7 +42,7 @@ sum-take-le zero ws = omega arith
 sum-take-le (suc n) [] = omega arith
 sum-take-le (suc n) (w ∷ ws) = omega (arith, sum-take-le n ws)
 
-largest-append : (xs : List ℕ) (x : ℕ) → largest (xs ++ (x ∷ [])) ≡ max (largest xs) x
+pub largest-append : (xs : List ℕ) (x : ℕ) → largest (xs ++ (x ∷ [])) ≡ max (largest xs) x
 largest-append [] x = omega arith
 largest-append (y ∷ xs) x = omega (arith, largest-append xs x)
 
@@ -105,7 +105,7 @@ rounded_more {total} {whole} {ws = ws} w q r l' b h eq er el eb =
 
 -- the leftover is at most the number of remainders above 0
 module _ (total : ℕ) (ws : List ℕ) (hp : 0 < sum ws) where
-  pub leftover_le : leftover total ws ≤ at_least 1 (remainders total ws)
+  pub leftover_le : leftover total ws ≤ at_least 1 (map (remainder total (sum ws)) ws)
   leftover_le =
       let down = sum (map (quota total (sum ws)) ws) in
       let back : total - down + down ≡ total = omega (arith, quotas_le total (sum ws) hp ws (omega arith)) in
@@ -115,5 +115,5 @@ module _ (total : ℕ) (ws : List ℕ) (hp : 0 < sum ws) where
 
   pub leftover-fits : leftover total ws ≤ length ws
   leftover-fits =
-      let rs = remainders total ws in
+      let rs = map (remainder total (sum ws)) ws in
       omega (arith, leftover_le, antitone 0 1 rs (omega arith), at_zero rs, length-map ws (remainder total (sum ws)))

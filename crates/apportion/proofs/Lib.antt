@@ -5,8 +5,12 @@ pub mod Takers
 pub mod Giving
 pub mod Leftover
 pub mod Laws
+pub mod Tied
+pub mod Alike
 pub mod Turns
 pub mod Halves
 pub mod Wide
 pub mod Sums
+pub mod Zips
+pub mod Replacing
 pub mod Plan

@@ -69,9 +69,16 @@ pub extras-given : (left θ : ℕ) (ks : List ℕ) → Threshold left θ ks → 
 extras-given left θ ks h = by-threshold left θ (left - at_least (suc θ) ks) [] ks (omega arith) (omega arith) (omega arith)
 
 -- ---- there is a threshold, and it gives out just the leftover
-threshold : (left : ℕ) (ks : List ℕ) (top : ℕ) → at_least top ks ≤ left → left ≤ at_least 0 ks → (θ : ℕ) × Threshold left θ ks
-threshold left ks zero a b = (0, (omega (arith, antitone 0 1 ks (omega arith)), b))
-threshold left ks (suc t) a b = elim (dec_le left (at_least t ks)) [ yes h ↦ (t, (a, h)) | no h ↦ threshold left ks t (omega arith) b ]
+pub threshold : (left : ℕ) (ks : List ℕ) (from more : ℕ) → at_least (suc (from + more)) ks ≤ left → left ≤ at_least from ks
+    → (θ : ℕ) × (from ≤ θ) × (θ ≤ from + more) × Threshold left θ ks
+threshold left ks from zero a b = (from, omega arith, omega arith, (omega (arith, ap (λ (m : ℕ). at_least (suc m) ks) {x = from + 0} {y = from} (omega arith)), b))
+threshold left ks from (suc m) a b =
+    elim (dec_le left (at_least (from + suc m) ks)) [
+      | yes h ↦ (from + suc m, omega arith, omega arith, (a, h))
+      | no h ↦
+          let t = threshold left ks from m (omega (arith, ap (λ (m : ℕ). at_least m ks) {x = suc (from + m)} {y = from + suc m} (omega arith))) b in
+          (t.0, t.1, omega (arith, t.2), t.3)
+    ]
 
 sum-given : (θ spare : ℕ) (ks : List ℕ) → sum (given θ spare ks) ≡ at_least (suc θ) ks + min spare (at_least θ ks - at_least (suc θ) ks)
 sum-given θ spare [] = omega arith
@@ -82,12 +89,9 @@ sum-given θ spare (k ∷ ks) =
 
 pub sum-extras : (left : ℕ) (ks : List ℕ) → left ≤ length ks → sum (extras left [] ks) ≡ left
 sum-extras left ks h =
-    let t = threshold left ks (suc (largest ks)) (omega (arith, no_higher (suc (largest ks)) ks (omega arith))) (omega (arith, at_zero ks)) in
-    ap sum (extras-given left t.0 ks t.1) ∙ omega (arith, sum-given t.0 (left - at_least (suc t.0) ks) ks)
+    let t = threshold left ks 0 (largest ks) (omega (arith, no_higher (suc (0 + largest ks)) ks (omega arith))) (omega (arith, at_zero ks)) in
+    ap sum (extras-given left t.0 ks t.3) ∙ omega (arith, sum-given t.0 (left - at_least (suc t.0) ks) ks)
 
 pub length-extras : (left : ℕ) (earlier later : List ℕ) → length (extras left earlier later) ≡ length later
 length-extras left earlier [] = refl
 length-extras left earlier (k ∷ later) = ap suc (length-extras left (k ∷ earlier) later)
-
-pub one_le : (θ spare k : ℕ) → one θ spare k ≤ 1
-one_le θ spare k = elim (case θ spare k) [ above h p q e f ↦ omega arith | level h g p q e f ↦ omega (arith, bit-min spare) | under h p q e f ↦ omega arith ]

@@ -5,7 +5,9 @@ use mathlib.Core.List.{List, [], ◌∷◌, map}
 use Prim.Native.Nat.{ℕ, ◌+◌, ◌*◌, ◌/◌, ◌%◌, ◌<◌}
 use native.Mathlib.Omega.{arith}
 use native.Mathlib.Nat.{mul_assoc, mul_comm, add-mul, mul-add-div_right, mul-add-mod_self_right}
-use Rattle.apportion.specs.Shares.{sum, quota, remainder, leftover, extras, added, Key, shares_by}
+use Rattle.apportion.specs.declared.tie_rule.TieRule.{TieRule}
+use Rattle.apportion.specs.declared.tie_rule.TieRule.TheVariants.{EarlierFirst, LargerFirst}
+use Rattle.apportion.specs.Shares.{sum, quota, remainder, leftover, extras, added, Key, shares_by, key_by}
 
 -- A key that knows the total by the remainder alone.
 abbrev pub ByRemainder : Key → Type 0
@@ -54,5 +56,6 @@ turns key by q r ws positive =
     rw (left, same_keys q r (sum ws) key by ws)
     (ap (λ (qs : List ℕ). added qs xs) (quotas-turned q r (sum ws) positive ws) ∙ added-turned q (quota r (sum ws)) ws xs)
 
-pub remainder_by : ByRemainder remainder
-remainder_by total total' whole w e = e
+pub key_by_remainder : (ties : TieRule) → ByRemainder (key_by ties)
+key_by_remainder EarlierFirst total total' whole w e = e
+key_by_remainder LargerFirst total total' whole w e = ap (λ (r : ℕ). r * (whole + 1) + w) e

@@ -1,6 +1,8 @@
 -- What every division keeps to, for any number of items. Other crates use these laws and not the text of `shares_by`.
-use Rattle.std.specs.Prelude.{◌≡◌, List, ℕ, ◌+◌, ◌*◌, ◌≤◌, ◌<◌, length, get_or}
-use Rattle.apportion.specs.Shares.{sum, remainder, Key, shares_by}
+use Rattle.std.specs.Prelude.{◌≡◌, List, ◌⊎◌, ℕ, ◌+◌, ◌*◌, ◌≤◌, ◌<◌, length, get_or}
+use Rattle.apportion.specs.declared.tie_rule.TieRule.{TieRule}
+use Rattle.apportion.specs.declared.tie_rule.TieRule.TheVariants.{EarlierFirst, LargerFirst}
+use Rattle.apportion.specs.Shares.{sum, remainder, Key, shares_by, remainder_then_weight, shares}
 
 -- `shares` divide `total` by the weights: they are as many, they add up, each is less than one away from its exact part,
 -- a weight of 0 gets 0, and no share passes the total.
@@ -21,3 +23,26 @@ RanksRemainders key =
 abbrev pub EveryDivisionIsFair : Type 0
 EveryDivisionIsFair =
     (key : Key) → RanksRemainders key → (total : ℕ) (ws : List ℕ) → (sum ws ≡ 0 → total ≡ 0) → Fair total ws (shares_by key total ws)
+
+-- By both rules for ties.
+abbrev pub SharesAreFair : Type 0
+SharesAreFair = (ties : TieRule) (total : ℕ) (ws : List ℕ) → (sum ws ≡ 0 → total ≡ 0) → Fair total ws (shares ties total ws)
+
+-- 2026-06: an item of weight v comes before one of weight w exactly when its remainder is larger, or the remainders are equal and its weight is larger.
+pub record ComesFirst (total whole v w : ℕ) : Type 0 where
+  pub if : (remainder total whole w < remainder total whole v) ⊎ ((remainder total whole w ≡ remainder total whole v) × (w < v))
+      → remainder_then_weight total whole w < remainder_then_weight total whole v
+  pub only_if_lem : remainder_then_weight total whole w < remainder_then_weight total whole v
+      → (remainder total whole w < remainder total whole v) ⊎ ((remainder total whole w ≡ remainder total whole v) × (w < v))
+
+abbrev pub LargerWeightFirst : Type 0
+LargerWeightFirst = (total whole v w : ℕ) → v ≤ whole → w ≤ whole → ComesFirst total whole v w
+
+-- No item with a remainder is followed by one of the same remainder and larger weight. There both rules for ties divide alike.
+abbrev pub NoLaterLarger : ℕ → List ℕ → Type 0
+NoLaterLarger total ws =
+    let rest = λ (i : ℕ). remainder total (sum ws) (get_or ws i 0) in
+    (i j : ℕ) → i < j → j < length ws → 0 < rest i → rest i ≡ rest j → get_or ws j 0 ≤ get_or ws i 0
+
+abbrev pub AlikeButForTies : Type 0
+AlikeButForTies = (total : ℕ) (ws : List ℕ) → NoLaterLarger total ws → shares LargerFirst total ws ≡ shares EarlierFirst total ws

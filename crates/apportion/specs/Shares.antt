@@ -1,5 +1,7 @@
 -- Dividing a whole T by weights with sum W (document 01, "Dividing"): the largest-remainder method.
 use Rattle.std.specs.Prelude.{Bool, true, false, List, [], ◌∷◌, map, ℕ, suc, ◌+◌, ◌*◌, ◌-◌, ◌/◌, ◌%◌, leb, ltb}
+use Rattle.apportion.specs.declared.tie_rule.TieRule.{TieRule}
+use Rattle.apportion.specs.declared.tie_rule.TieRule.TheVariants.{EarlierFirst, LargerFirst}
 
 abbrev pub sum : List ℕ → ℕ
 sum [] = 0
@@ -14,9 +16,6 @@ remainder total whole w = total * w % whole
 
 abbrev pub quotas : ℕ → List ℕ → List ℕ
 quotas total ws = map (quota total (sum ws)) ws
-
-abbrev pub remainders : ℕ → List ℕ → List ℕ
-remainders total ws = map (remainder total (sum ws)) ws
 
 -- what the quotas leave of T
 abbrev pub leftover : ℕ → List ℕ → ℕ
@@ -51,6 +50,15 @@ Key = ℕ → ℕ → ℕ → ℕ
 unfoldable pub shares_by : Key → ℕ → List ℕ → List ℕ
 shares_by key total ws = added (quotas total ws) (extras (leftover total ws) [] (map (key total (sum ws)) ws))
 
--- T divided by the weights: the key is the remainder
-abbrev pub shares : ℕ → List ℕ → List ℕ
-shares = shares_by remainder
+-- Remainder and weight as one number. No weight passes W, so the weight decides between equal remainders only (`larger_weight_first`, proofs/Laws.antt).
+abbrev pub remainder_then_weight : Key
+remainder_then_weight total whole w = remainder total whole w * (whole + 1) + w
+
+-- On equal remainders the earlier item comes first (document 01), or the item of larger weight and then the earlier (2026-06).
+abbrev pub key_by : TieRule → Key
+key_by EarlierFirst = remainder
+key_by LargerFirst = remainder_then_weight
+
+-- T divided by the weights
+abbrev pub shares : TieRule → ℕ → List ℕ → List ℕ
+shares ties = shares_by (key_by ties)

@@ -9,6 +9,8 @@ use super::narrowing::{Cut, Leftover};
 pub struct Bracket {
     pub lo: u64,
     pub hi: u64,
+    // As the counts say, which nothing is proved of.
+    pub holds: u32,
     ghost ordered: { lo ≤ hi },
 }
 
@@ -84,6 +86,7 @@ impl<'a> Leftover<'a> {
         Bracket {
             lo,
             hi: ((b + 1) << shift).clamp(lo, self.hi),
+            holds: counts[b as usize],
         }
     }
 
@@ -92,6 +95,9 @@ impl<'a> Leftover<'a> {
         ensures { Cuts self.old.left result.theta result.spare self.old.keys.now }
     {
         let bracket = self.around();
+        if 128 <= bracket.holds {
+            return self.narrow();
+        }
         let split = bracket.collect(self.keys, near);
         if !split.catches(self.left) {
             return self.narrow();
@@ -107,7 +113,7 @@ impl<'a> Leftover<'a> {
         few.narrow()
     }
 
-    fn threshold(&self) -> Cut
+    pub(crate) fn threshold(&self) -> Cut
         ensures { Cuts self.now.left result.theta result.spare self.now.keys.now }
     {
         let mut all = *self;
@@ -119,19 +125,27 @@ impl<'a> Leftover<'a> {
     }
 
     // The leftover goes one each to the largest keys, ties to the earlier item.
-    #[tactic(auto, using(crate::proofs::Giving::one_each))]
     pub(crate) fn give(&self, out: &mut [u32])
-        requires out_len { (length out.old ≡ length self.now.keys.now) × ((j : ℕ) → get_or out.old j 0 < 2 ^ 32 - 2) }
+        requires { (length out.old ≡ length self.now.keys.now) × ((j : ℕ) → get_or out.old j 0 < 2 ^ 32 - 2) }
         ensures { out.new ≡ added out.old (extras self.now.left [] self.now.keys.now) }
     {
         let cut = self.threshold();
-        give_above(self.keys, cut.theta, out);
-        give_ties(self.keys, cut, out);
+        give_cut(self.keys, cut, out);
     }
 }
 
+// One more for each key above the threshold, and for the earliest of those at it, while there is one to spare.
+#[tactic(auto, using(crate::proofs::Giving::one_each))]
+pub(crate) fn give_cut(keys: &[u64], cut: Cut, out: &mut [u32])
+    requires { (length out.old ≡ length keys.now) × ((j : ℕ) → get_or out.old j 0 < 2 ^ 32 - 2) }
+    ensures { out.new ≡ added out.old (given cut.theta cut.spare keys.now) }
+{
+    give_above(keys, cut.theta, out);
+    give_ties(keys, cut, out);
+}
+
 // One more for each key above theta.
-fn give_above(keys: &[u64], theta: u64, out: &mut [u32])
+pub(crate) fn give_above(keys: &[u64], theta: u64, out: &mut [u32])
     requires { (length out.old ≡ length keys.now) × ((j : ℕ) → get_or out.old j 0 < 2 ^ 32 - 1) }
     ensures { out.new ≡ added out.old (given theta 0 keys.now) }
 {

@@ -1,10 +1,11 @@
-// Divides each vector of standard input with the library and prints its shares on a line. A vector is a count (u16), a
-// total (u32) and as many weights (u64) as the count says, all little-endian.
+// Divides each vector of standard input with the library and prints its shares on two lines: ties to the earlier item, then to the
+// larger weight. A vector is a count (u16), a total (u32) and as many weights (u64) as the count says, all little-endian.
 #![tactic(auto)]
 
 ghost use Rattle.std.specs.Prelude.{true, ◌≡◌, ◌-◌, ◌^◌, ◌≤◌, ◌<◌, IfOk, IfSome, length};
 ghost use Rattle.apportion.specs.Shares.{sum};
 
+use apportion::TieRule;
 use std::io;
 
 // What does not fit is not read.
@@ -60,7 +61,7 @@ fn print_shares(rt: &impl Print, shares: &[u32]) -> io::Result<()> {
     console::newline(rt)
 }
 
-// Divides the first vector of `s` and prints its shares. What follows it, or none where it is bad.
+// Divides the first vector of `s` by both rules for ties and prints the shares. What follows it, or none where it is bad.
 fn divide<'a>(rt: &impl Print, s: &'a [u8]) -> io::Result<Option<&'a [u8]>>
     ensures { IfOk result (λ v. IfSome v (λ rest. length rest.now < length s.now)) }
 {
@@ -78,8 +79,10 @@ fn divide<'a>(rt: &impl Print, s: &'a [u8]) -> io::Result<Option<&'a [u8]>>
     if !is_admitted(total, ws) {
         return Ok(None);
     }
-    apportion::apportion(u64::from(total), ws, scratch, out);
-    print_shares(rt, out)?;
+    for ties in [TieRule::EarlierFirst, TieRule::LargerFirst] {
+        apportion::apportion(ties, u64::from(total), ws, scratch, out);
+        print_shares(rt, out)?;
+    }
     Ok(Some(rest))
 }
 

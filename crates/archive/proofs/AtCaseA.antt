@@ -10,7 +10,7 @@ use Rattle.std.specs.Prelude.{Ok, Err}
 use Rattle.sheet.specs.Tests.{all, any}
 use Rattle.sheet.specs.Refusals.{first_refusal}
 use Rattle.sheet.specs.declared.rule_set.RuleSet.{RuleSet}
-use Rattle.sheet.specs.declared.rule_set.RuleSet.TheVariants.{Archive1, Archive2}
+use Rattle.sheet.specs.declared.rule_set.RuleSet.TheVariants.{Archive1, Archive2, Archive3}
 use Rattle.sheet.specs.RuleSets.{archive_version}
 use Rattle.sheet.specs.Layout.{unit_row, rows, sheet_of, in_bytes}
 use Rattle.sheet.specs.Check.{header_tests, row_tests, field_rules, row_rules, sheet_rules}
@@ -54,6 +54,14 @@ computed Archive1 = record {
   refuses = refl;
 }
 computed Archive2 = record {
+  head = refl;
+  settles = refl;
+  inside = refl;
+  holds = record { month = month_a; settles = refl; statement = refl };
+  damaged-head = refl;
+  refuses = refl;
+}
+computed Archive3 = record {
   head = refl;
   settles = refl;
   inside = refl;

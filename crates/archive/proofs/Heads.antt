@@ -12,7 +12,7 @@ use native.Mathlib.Omega.{arith}
 use lib.ListN.{take}
 use Rattle.std.specs.Prelude.{None, Some}
 use Rattle.sheet.specs.declared.rule_set.RuleSet.{RuleSet}
-use Rattle.sheet.specs.declared.rule_set.RuleSet.TheVariants.{Archive1, Archive2}
+use Rattle.sheet.specs.declared.rule_set.RuleSet.TheVariants.{Archive1, Archive2, Archive3}
 use Rattle.sheet.specs.RuleSets.{rule_sets}
 use Rattle.sheet.specs.Check.{same_list}
 use Rattle.archive.specs.Record.{archive_head}
@@ -26,6 +26,7 @@ named : (rules : RuleSet) → head_among rule_sets (archive_head rules) ≡ Some
 unfolding head_among
 named Archive1 = refl
 named Archive2 = refl
+named Archive3 = refl
 
 pub right_of : (rules : RuleSet) (bytes : List ℕ) → RightHead rules bytes → head_of bytes ≡ Some rules
 right_of rules bytes h = ap (head_among rule_sets) h ∙ named rules

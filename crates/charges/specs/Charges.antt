@@ -16,7 +16,7 @@ in_order a = a.power ∷ a.buyer ∷ a.supplier ∷ []
 unfoldable pub charge_weights : ℕ → Sheet → List ℕ
 charge_weights model s = if eqb model 1 then map (λ u. u.heat_load) s.units else map (λ u. u.heated_area) s.units
 
--- A column for each amount, divided by the weights ("Dividing", document 01).
+-- A column for each amount, divided by the weights ("Dividing", document 01), ties by the rules (2026-06).
 unfoldable pub columns : RuleSet → Amounts → List ℕ → List (List ℕ)
 columns rules a ws = map (λ amount. shares_under rules amount ws) (in_order a)
 

@@ -26,7 +26,7 @@ fn charge(amount: u32, column: usize, weights: &[u64], charges: &mut [u32])
 {
     let mut parts = [0u32; 160];
     let parts = &mut parts[..weights.len()];
-    share(u64::from(amount), weights, parts);
+    share(sheet::NEWEST, u64::from(amount), weights, parts);
     put_column(parts, column, charges);
 }
 

@@ -7,12 +7,12 @@ use native.Mathlib.Omega.{arith}
 use lib.Dec.{ltb}
 use lib.IntN.{ℤ, pos, nat_abs, ◌-ℤ◌}
 use lib.ListN.{length, get_or, length-map}
-use Rattle.apportion.specs.Shares.{sum, shares}
+use Rattle.apportion.specs.Shares.{sum}
 use Rattle.sheet.specs.Tests.{any}
 use Rattle.sheet.specs.declared.rule_set.RuleSet.{RuleSet}
 use Rattle.sheet.specs.Layout.{Sheet, sheet_of}
 use Rattle.month.specs.Weights.{total_area}
-use Rattle.month.specs.Steps.{whole_wh}
+use Rattle.month.specs.Steps.{shares_under, whole_wh}
 use Rattle.month.specs.Inner.Accepted.{AcceptedSheet}
 use Rattle.month.proofs.Nearness.{get_d_map_in}
 use Rattle.group.specs.Group.{Group, difference, is_negative, adjusted, difference_shares, common_heats, adjusted_readings, common_heat_below_zero}
@@ -63,10 +63,10 @@ module _ {rules : RuleSet} {g : Group} (c : CheckedGroup g) {areas commons out :
         (omega (arith, areas_many, c.count), omega (arith, e, areas_positive g.buildings c.some c.each), omega (arith, e, areas_le g c), omega (arith, size_is, difference_le g c))
 
     -- ---- its shares
-    module _ {parts : List ℕ} (divided : parts ≡ shares size areas) where
+    module _ {parts : List ℕ} (divided : parts ≡ shares_under rules size areas) where
       parts_are : parts ≡ difference_shares whole_wh rules g
       unfolding difference_shares
-      parts_are = divided ∙ ap₂ shares size_is s.areas_are
+      parts_are = divided ∙ ap₂ (shares_under rules) size_is s.areas_are
 
       pub parts_many : length parts ≡ length g.buildings
       parts_many = ap length parts_are ∙ shares-length g c rules

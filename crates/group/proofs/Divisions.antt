@@ -7,10 +7,11 @@ use native.Mathlib.Omega.{arith}
 use lib.Dec.{ltb}
 use lib.IntN.{ℤ, pos, negsuc}
 use lib.ListN.{length}
-use Rattle.apportion.specs.Shares.{remainder}
+use Rattle.apportion.specs.Shares.{key_by}
 use Rattle.apportion.proofs.Laws.{length-shares}
 use Rattle.sheet.specs.Tests.{any, Each}
 use Rattle.sheet.specs.declared.rule_set.RuleSet.{RuleSet}
+use Rattle.sheet.specs.RuleSets.{ties}
 use Rattle.sheet.specs.Layout.{Sheet}
 use Rattle.month.specs.Steps.{Method, shares_under, dividing_by, whole_wh, heat_parts, energies_with}
 use Rattle.month.specs.Laws.{divisions_with, DoesAsShares}
@@ -64,7 +65,7 @@ no_other_group_divisions rules g divide h =
     let readings = adjusted_readings rules g in
     let parts = bill_parts rules g in
     let shares : difference_shares e rules g ≡ xs = h.0 in
-    let same = same-buildings divide rules z ss xs parts (length-shares remainder (shared_bill g) readings) h.1.1 in
+    let same = same-buildings divide rules z ss xs parts (length-shares (key_by (ties rules)) (shared_bill g) readings) h.1.1 in
     let heats : common_heats e rules g ≡ common_heats whole_wh rules g = ap (zip_with (λ s share. adjusted e z (heat_parts e rules s).common share) ss) shares ∙ same.heats in
     let energies : building_energies e rules g ≡ building_energies whole_wh rules g = ap (zip_with (energies_with e rules) ss) heats ∙ same.energies in
     let bill : divide rules (shared_bill g) (readings_by divide rules g) ≡ parts = ap (λ (ys : List ℕ). divide rules (shared_bill g) (readings_of z ss ys)) shares ∙ h.1.0 in

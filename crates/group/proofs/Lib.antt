@@ -16,5 +16,4 @@ pub mod Adjusting
 pub mod Outcomes
 pub mod OneBuilding
 pub mod Places
-mod Replacing
 mod Written

@@ -59,14 +59,6 @@ module _ {A B : Type 0} where
     at (one r rs) zero a b h = r
     at (one r rs) (suc i) a b h = at rs i a b (omega arith)
 
-pub zip_at : {A B C : Type 0} (f : A → B → C) (xs : List A) (ys : List B) (i : ℕ) (a : A) (b : B) (c : C) → i < length xs → i < length ys
-    → get_or (zip_with f xs ys) i c ≡ f (get_or xs i a) (get_or ys i b)
-unfolding zip_with
-zip_at f [] ys i a b c h l = absurd (omega arith)
-zip_at f (x ∷ xs) [] i a b c h l = absurd (omega arith)
-zip_at f (x ∷ xs) (y ∷ ys) zero a b c h l = refl
-zip_at f (x ∷ xs) (y ∷ ys) (suc i) a b c h l = zip_at f xs ys i a b c (omega arith) (omega arith)
-
 -- ---- near lists, one after the other
 pub near_append : (xs : List ℕ) (fs : List Fraction) {ys : List ℕ} {gs : List Fraction} {k : ℕ} → length xs ≡ length fs → NearAll xs fs k → NearAll ys gs k
     → NearAll (xs ++ ys) (fs ++ gs) k

@@ -19,7 +19,8 @@ use Rattle.month.proofs.Sums.{with_length}
 use Rattle.group.specs.Group.{Group, joined, common_heats, building_energies, group_energies, adjusted_readings, bill_parts, group_costs, group_units, group_statement}
 use Rattle.group.specs.Inner.Accepted.{AcceptedGroup}
 use Rattle.group.specs.Inner.Figures.{statements_of}
-use Rattle.group.proofs.Lists.{Beside, none, one, as_many, at, zip_at}
+use Rattle.apportion.proofs.Zips.{zip_at}
+use Rattle.group.proofs.Lists.{Beside, none, one, as_many, at}
 use Rattle.group.proofs.Bounds.{bill_le}
 use Rattle.group.proofs.Readings.{building-fours, building-sums, heats_beside}
 use Rattle.group.proofs.Bills.{DivisibleBy, parts_fair, building-divisible}

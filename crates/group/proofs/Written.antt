@@ -1,7 +1,7 @@
 -- Statements written one after the other: the parts of the list that are done, and one more. Assumes nothing.
 use mathlib.Core.Path.{◌≡◌, refl, sym, ap, ap₂, subst, ◌∙◌}
 use mathlib.Core.List.{List, [], ◌∷◌, ◌++◌, map, zip_with, append_assoc, append-nil}
-use Prim.Native.Nat.{ℕ, suc, ◌+◌, ◌*◌, ◌≤◌, ◌<◌}
+use Prim.Native.Nat.{ℕ, ◌+◌, ◌*◌, ◌≤◌, ◌<◌}
 use native.Mathlib.Numerals.{add-one}
 use native.Mathlib.Omega.{arith}
 use lib.ListN.{length, get_or, take, length-append, length-map}
@@ -18,18 +18,13 @@ use Rattle.month.proofs.Lists.{sum_append}
 use Rattle.settlement.specs.Inner.Building.{GroupCharges}
 use Rattle.group.specs.Group.{joined}
 use Rattle.group.specs.Inner.Figures.{statements_of, Charges}
-use Rattle.group.proofs.Lists.{zip_at, up_to-part}
+use Rattle.apportion.proofs.Zips.{zip_length, zip_at}
+use Rattle.group.proofs.Lists.{up_to-part}
 
 joined_append : (xss yss : List (List ℕ)) → joined (xss ++ yss) ≡ joined xss ++ joined yss
 unfolding joined
 joined_append [] yss = refl
 joined_append (xs ∷ xss) yss = ap (λ (r : List ℕ). xs ++ r) (joined_append xss yss) ∙ sym (append_assoc xs (joined xss) (joined yss))
-
-zip_length : {A B C : Type 0} (f : A → B → C) (xs : List A) (ys : List B) → length xs ≤ length ys → length (zip_with f xs ys) ≡ length xs
-unfolding zip_with
-zip_length f [] ys h = refl
-zip_length f (x ∷ xs) [] h = absurd (omega arith)
-zip_length f (x ∷ xs) (y ∷ ys) h = ap suc (zip_length f xs ys (omega arith))
 
 module _ (rules : RuleSet) (ss : List Sheet) (commons bills : List ℕ) where
   abbrev units : List ℕ

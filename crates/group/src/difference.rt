@@ -1,9 +1,10 @@
 // The difference between the shared meter and the buildings' meters, and its shares.
 ghost use Rattle.std.specs.Prelude.{◌≡◌, ◌&&◌, ◌≤◌, ◌<◌, ltb, nat_abs, pos, ◌-ℤ◌, length};
 ghost use mathlib.Core.List.{zip_with};
-ghost use Rattle.apportion.specs.Shares.{sum, shares};
+ghost use Rattle.apportion.specs.Shares.{sum};
+ghost use Rattle.sheet.specs.RuleSets.{newest};
 ghost use Rattle.sheet.specs.Tests.{any};
-ghost use Rattle.month.specs.Steps.{whole_wh};
+ghost use Rattle.month.specs.Steps.{shares_under, whole_wh};
 ghost use Rattle.group.specs.Group.{is_negative, adjusted};
 ghost use Rattle.group.specs.Inner.Figures.{Movable, MovableAt};
 
@@ -32,12 +33,12 @@ pub(crate) fn size_of(difference: i64) -> u64
 // The size divided by the areas, in their place: a size past 32 bits as whole turns and a rest.
 pub(crate) fn share_difference(size: u64, areas: &mut [u64])
     requires { (length areas.old ≤ 12) × (0 < sum areas.old) × (sum areas.old ≤ 19200000) × (size ≤ 48000000000) }
-    ensures { areas.new ≡ shares size areas.old }
+    ensures { areas.new ≡ shares_under newest size areas.old }
 {
     let mut rest = [0u32; 12];
     let rest = &mut rest[..areas.len()];
     let whole: u64 = areas.iter().sum();
-    share(size % whole, areas, rest);
+    share(sheet::NEWEST, size % whole, areas, rest);
     let turns = size / whole;
     for (i, area) in areas.iter_mut().enumerate() {
         *area = turns * *area + u64::from(rest[i]);

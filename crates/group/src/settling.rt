@@ -38,7 +38,8 @@ impl<'a> PassedGroup<'a> {
         let price = u64::from(self.sheet(0).header(Field::Price));
         let mut bills = [0u32; 12];
         let bills = &mut bills[..readings.len()];
-        share(cents_for(self.group.reading, price), readings, bills);
+        let bill = cents_for(self.group.reading, price);
+        share(sheet::NEWEST, bill, readings, bills);
         self.write_all(commons, bills, statement);
     }
 

@@ -13,6 +13,7 @@ use Rattle.apportion.specs.Shares.{sum}
 use Rattle.apportion.specs.Fair.{Fair}
 use Rattle.apportion.proofs.Laws.{shares-fair}
 use Rattle.sheet.specs.declared.rule_set.RuleSet.{RuleSet}
+use Rattle.sheet.specs.RuleSets.{ties}
 use Rattle.sheet.specs.Layout.{UnitRow, Sheet}
 use Rattle.sheet.specs.Tests.{Each}
 use Rattle.month.specs.Weights.{unread_units, all_metered, unread_weights, pool_weight, read_weights, water_weight, common_water_weight}
@@ -41,7 +42,7 @@ way s = go (all_metered s) refl (eqb s.model 1) refl (eqb s.model 2) refl
 
 -- ---- a division by the rules
 pub under-fair : (rules : RuleSet) (t : ℕ) (ws : List ℕ) → (sum ws ≡ 0 → t ≡ 0) → Fair t ws (shares_under rules t ws)
-under-fair rules t ws h = shares-fair t ws h
+under-fair rules t ws h = shares-fair (ties rules) t ws h
 
 -- ---- (100 − percent, percent)
 module _ (rules : RuleSet) (percent t : ℕ) where

@@ -1,11 +1,12 @@
 -- The laws of a month: what holds of every sheet that settles, by all rules (`settled-laws`, proofs/Laws.antt); which divisions a month makes, by all rules
--- (`no_other_divisions`, proofs/Divisions.antt); which months versions 1 and 2 settle alike (`alike_but_for_risers`, proofs/Versions.antt); that H rounded up
--- refuses the sheets that the exact H does (`same-refusals`, proofs/Rounding.antt).
+-- (`no_other_divisions`, proofs/Divisions.antt); which months versions 1 and 2, and versions 2 and 3, settle alike (`alike_but_for_risers`, `alike_but_for_ties`, proofs/Versions.antt); that
+-- H rounded up refuses the sheets that the exact H does (`same-refusals`, proofs/Rounding.antt).
 use Rattle.std.specs.Prelude.{Bool, false, ◌≡◌, List, [], ◌∷◌, ◌++◌, map, ℕ, zero, suc, ◌+◌, ◌*◌, ◌-◌, ◌≤◌, ◌<◌, ltb, eqb, ℤ, pos, negsuc, ◌-ℤ◌, length, get_or, if◌then◌else◌}
 use Rattle.apportion.specs.Shares.{sum}
+use Rattle.apportion.specs.Fair.{NoLaterLarger}
 use Rattle.sheet.specs.Tests.{Each}
 use Rattle.sheet.specs.declared.rule_set.RuleSet.{RuleSet}
-use Rattle.sheet.specs.declared.rule_set.RuleSet.TheVariants.{Archive1, Archive2}
+use Rattle.sheet.specs.declared.rule_set.RuleSet.TheVariants.{Archive1, Archive2, Archive3}
 use Rattle.sheet.specs.Layout.{Sheet, sheet_of}
 use Rattle.month.specs.Fraction.{Fraction, Near}
 use Rattle.month.specs.Weights.{unread_units, all_metered, metered_sum, unread_weights, pool_weight, reading_sum, read_weights, water_weight, common_water_weight}
@@ -99,6 +100,14 @@ SettledLaws = (rules : RuleSet) (bytes : List ℕ) (m : Month) → settled_sheet
 -- By archive versions 1 and 2 a month comes out the same, unless it is of model 4 with B > 0.
 abbrev pub AlikeButForRisers : Type 0
 AlikeButForRisers = (s : Sheet) → (s.model ≡ 4 → reading_sum s ≡ 0) → month_of Archive1 s ≡ month_of Archive2 s
+
+-- ---- 2026-06
+-- By archive versions 2 and 3 a month comes out the same, unless in one of its divisions by version 3 an item with a remainder is followed by one of the same remainder and larger weight.
+abbrev pub WithoutTies : Division → Type 0
+WithoutTies d = NoLaterLarger d.total d.weights
+
+abbrev pub AlikeButForTies : Type 0
+AlikeButForTies = (s : Sheet) → Each WithoutTies (divisions Archive3 s) → month_of Archive2 s ≡ month_of Archive3 s
 
 -- ---- 8, 9 and 11 by H rounded up and by the exact H
 -- a whole number below or above a fraction, by whole numbers over the fraction's lower

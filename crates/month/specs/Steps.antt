@@ -2,6 +2,7 @@
 use Rattle.std.specs.Prelude.{List, [], ◌∷◌, ◌++◌, map, ℕ, zero, suc, ◌+◌, ◌*◌, ◌-◌, ◌/◌, eqb, length, get_or, drop, if◌then◌else◌}
 use Rattle.apportion.specs.Shares.{sum, shares}
 use Rattle.sheet.specs.declared.rule_set.RuleSet.{RuleSet}
+use Rattle.sheet.specs.RuleSets.{ties}
 use Rattle.sheet.specs.Layout.{UnitRow, Sheet, water_reading}
 use Rattle.month.specs.Fraction.{Fraction, ◌over◌, ◌+ᶠ◌, ◌-ᶠ◌, portions}
 use Rattle.month.specs.Weights.{is_read, unread_units, all_metered, metered_sum, unread_weights, pool_weight, read_weights, water_weight, common_water_weight}
@@ -19,9 +20,9 @@ pub record Rounding : Type 1 where
 abbrev pub Method : Type 0
 Method = RuleSet → ℕ → List ℕ → List ℕ
 
--- "Dividing" (document 01): alike by all rules.
+-- "Dividing" (document 01), ties by the rules (2026-06).
 abbrev pub shares_under : Method
-shares_under rules = shares
+shares_under rules = shares (ties rules)
 
 -- The statement's: a quotient is rounded up (own), a division goes by the largest remainders.
 abbrev pub dividing_by : Method → Rounding

@@ -7,9 +7,10 @@ use native.Mathlib.Omega.{arith}
 use borrow.Author.Tests.{eq-eqb, ne_eqb}
 use lib.ListN.{length, take, drop, length-map, drop_of_length-le, replicate}
 use lib.Seq.{take_at}
-use Rattle.apportion.specs.Shares.{sum, remainder, shares}
+use Rattle.apportion.specs.Shares.{sum, key_by}
 use Rattle.apportion.proofs.Laws.{shares-none, shares-fair}
 use Rattle.sheet.specs.declared.rule_set.RuleSet.{RuleSet}
+use Rattle.sheet.specs.RuleSets.{ties}
 use Rattle.sheet.specs.Layout.{UnitRow, Sheet}
 use Rattle.month.specs.Weights.{those, all_metered, total_area, unread_weights, read_weights}
 use Rattle.month.specs.Steps.{shares_under, whole_wh, heat, common_heat, water_parts, water, common_water}
@@ -28,12 +29,15 @@ use Rattle.settlement.specs.Inner.Division.{Divides, Shared}
 use Rattle.settlement.proofs.Parts.{front_untouched}
 
 -- the shares at the front of a longer list
-pub front_shares : (total k : ℕ) (ws out rest : List ℕ) → length ws ≡ k → (sum ws ≡ 0 → total ≡ 0) → out ≡ shares total ws ++ rest → take k out ≡ shares total ws
-front_shares total k ws out rest many h e = ap (take k) e ∙ take_at (shares total ws) rest k ((shares-fair total ws h).as_many ∙ many)
+pub front_shares : (rules : RuleSet) (total k : ℕ) (ws out rest : List ℕ) → length ws ≡ k → (sum ws ≡ 0 → total ≡ 0) → out ≡ shares_under rules total ws ++ rest
+    → take k out ≡ shares_under rules total ws
+front_shares rules total k ws out rest many h e = ap (take k) e ∙ take_at (shares_under rules total ws) rest k ((shares-fair (ties rules) total ws h).as_many ∙ many)
 
 -- the shares alone, where the list was as long as the weights
-pub all_shares : (total : ℕ) (ws before : List ℕ) {out : List ℕ} → length before ≡ length ws → out ≡ shares total ws ++ drop (length ws) before → out ≡ shares total ws
-all_shares total ws before many e = e ∙ ap (λ (rest : List ℕ). shares total ws ++ rest) (drop_of_length-le before (omega arith)) ∙ append-nil (shares total ws)
+pub all_shares : (rules : RuleSet) (total : ℕ) (ws before : List ℕ) {out : List ℕ} → length before ≡ length ws → out ≡ shares_under rules total ws ++ drop (length ws) before
+    → out ≡ shares_under rules total ws
+all_shares rules total ws before many e =
+    e ∙ ap (λ (rest : List ℕ). shares_under rules total ws ++ rest) (drop_of_length-le before (omega arith)) ∙ append-nil (shares_under rules total ws)
 
 pub those-all : (us : List UnitRow) → those (λ u. true) us ≡ us
 those-all [] = refl
@@ -92,7 +96,7 @@ module _ (month : Month) where
   zeros_shared by z e =
       let us = those (takes_part by) s.units in
       let few : length (map (weight_of rules by s) us) ≤ 160 = omega (arith, length-map us (weight_of rules by s), those-fewer (takes_part by) s.units, accepted.checked-sheet.unit_count_lem, accepted.checked-sheet.header.unit_count) in
-      rw (z, e) (front_untouched _ 160 0 few ∙ sym (shares-none remainder (map (weight_of rules by s) us)))
+      rw (z, e) (front_untouched _ 160 0 few ∙ sym (shares-none (key_by (ties rules)) (map (weight_of rules by s) us)))
 
   -- ---- what each gives: a number for each unit
   module _ {total : ℕ} (out : List ℕ) where

@@ -47,7 +47,7 @@ fn pool_shares<'a>(month: &'a Month<'a>, total: u64, out: &mut [u32; 160]) -> us
     let mut weights = [0u64; 160];
     let m = gather(&month.basis, By::Unread, &mut weights);
     weights[m] = 10000 * month.basis.totals.area - month.basis.totals.unread;
-    share(total, &weights[..m + 1], out);
+    share(month.basis.rules, total, &weights[..m + 1], out);
     m
 }
 

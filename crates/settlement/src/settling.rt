@@ -41,7 +41,7 @@ pub(crate) fn write_statement<'a>(
         &common_water,
         statement,
     );
-    bill::write_costs(n, bill, statement);
+    bill::write_costs(month.basis.rules, n, bill, statement);
 }
 
 // A sheet by the rules: 8 to 12, then 13, then the statement.

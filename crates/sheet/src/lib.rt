@@ -18,6 +18,6 @@ pub use codes::{Model, Status, UnknownCode, WaterClass, WaterSource};
 pub use ranges::Range;
 pub use refusal::Refusal;
 pub use row_views::Rows;
-pub use rule_set::{NEWEST, RuleSet, limits_risers};
+pub use rule_set::{NEWEST, RuleSet, limits_risers, ties};
 pub use view::{RowView, Sheet};
 pub use watt_hours::Wh;

@@ -1,15 +1,18 @@
 // The rules by which a month is settled, a case for each archive version (document 02).
 ghost use Rattle.std.specs.Prelude.{◌≡◌};
-ghost use Rattle.sheet.specs.RuleSets.{limits_risers};
+ghost use Rattle.sheet.specs.RuleSets.{limits_risers, ties};
+
+use apportion::TieRule;
 
 #[derive(Clone, Copy)]
 pub enum RuleSet {
     Archive1,
     Archive2,
+    Archive3,
 }
 
 // What is settled now goes by these.
-pub const NEWEST: RuleSet = RuleSet::Archive2;
+pub const NEWEST: RuleSet = RuleSet::Archive3;
 
 // 2026-01.
 pub fn limits_risers(rules: RuleSet) -> bool
@@ -17,6 +20,16 @@ pub fn limits_risers(rules: RuleSet) -> bool
 {
     match rules {
         RuleSet::Archive1 => false,
-        RuleSet::Archive2 => true,
+        RuleSet::Archive2 | RuleSet::Archive3 => true,
+    }
+}
+
+// 2026-06.
+pub fn ties(rules: RuleSet) -> TieRule
+    ensures { result ≡ ties rules }
+{
+    match rules {
+        RuleSet::Archive1 | RuleSet::Archive2 => TieRule::EarlierFirst,
+        RuleSet::Archive3 => TieRule::LargerFirst,
     }
 }

@@ -84,14 +84,14 @@ record Said : Type 0 where
   replies : map answer_of (replies_of start calls) ≡ map expected run
   -- the months that stand, and the year calls of both units: 1,050 Wh and 11 cents
   stand : standing plain ≡ january ∷ december ∷ []
-  first : lent_reply last (year 0) ≡ totals 2 (263 ∷ 0 ∷ 0 ∷ 0 ∷ 3 ∷ 0 ∷ 0 ∷ 0 ∷ [])
-  second : lent_reply last (year 1) ≡ totals 2 (787 ∷ 0 ∷ 0 ∷ 0 ∷ 8 ∷ 0 ∷ 0 ∷ 0 ∷ [])
+  first : lent_reply last (year 0) ≡ totals 2 (262 ∷ 0 ∷ 0 ∷ 0 ∷ 2 ∷ 0 ∷ 0 ∷ 0 ∷ [])
+  second : lent_reply last (year 1) ≡ totals 2 (788 ∷ 0 ∷ 0 ∷ 0 ∷ 9 ∷ 0 ∷ 0 ∷ 0 ∷ [])
   settles : settled_sheet newest december ≡ settled december_settled
   energies : sum_to 2 (λ u. sum_to 4 (λ j. get_or (unit_sums plain u) j 0)) ≡ 1050
   cents : sum_to 2 (λ u. sum_to 4 (λ j. get_or (unit_sums plain u) (4 + j) 0)) ≡ 11
-  -- the second unit's first energy by 750 + 37.5, its first cents by 7.5 + 0.74
-  energy : Near 787 (1260000000000 over 1600000000) 8
-  cent : Near 8 (412000 over 50000) 2
+  -- the second unit's first energy by 750 + 37.5, its first cents by 7.5 + 0.76
+  energy : Near 788 (1260000000000 over 1600000000) 8
+  cent : Near 9 (413000 over 50000) 2
   -- a month of model 4, its first unit at the upper limit, 4,200 × 300 / 420 Wh
   by_risers_lem : Near 3000 (504000000000000000000 over 168000000000000000) 4
   matches : Matches last

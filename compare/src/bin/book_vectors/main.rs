@@ -1,11 +1,11 @@
-//! Vectors for document 01's "Year book", with requests 2026-01 to 2026-03:
-//! calls on one book and its sums, one after the other.
+//! Vectors for document 01's "Year book", with requests 2026-01 to 2026-03 and
+//! 2026-06: calls on one book and its sums, one after the other.
 mod refused;
 mod run;
 mod sums;
 
 use compare::calls::{random_call, sheet_of_building};
-use compare::cases::{case_a, case_a_with_meter, case_c_by_risers};
+use compare::cases::{case_a, case_a_with_meter, case_c_by_risers, other_by_every_version};
 use compare::rng::Rng;
 use compare::samples::random_sheet_of;
 use compare::sheet::{build_sheet, Header, Sheet, Unit};
@@ -90,6 +90,17 @@ impl Run {
         self.withdraw(6);
     }
 
+    /// Request 2026-06: months with equal remainders, of heat and of the bill.
+    fn ties(&mut self) {
+        self.post(&in_month(other_by_every_version(), 7));
+        self.post(&in_month(by_1_3_2(3, 10_000), 8));
+        self.years();
+        self.replace(&in_month(by_1_3_2(120, 25_000), 7));
+        self.years();
+        self.withdraw(7);
+        self.withdraw(8);
+    }
+
     /// Two months of 160 units, with the smallest building after them.
     fn large(&mut self, rng: &mut Rng) {
         let ids: Vec<u32> = (1..=160).map(|place| 3 * place).collect();
@@ -156,6 +167,19 @@ fn overcharged(month: u8) -> Vec<u8> {
     small_sheet(month, [3, 30, 31], 1_000, &rows)
 }
 
+/// Case A by areas of 1, 3, 2, model 2.
+fn by_1_3_2(meter: u32, price: u32) -> Sheet {
+    let mut sheet = case_a_with_meter(meter);
+    let header = &mut sheet.header;
+    (header.model, header.price) = (2, price);
+    (header.base_percent, header.common_heat_percent) = (0, 0);
+    header.unmetered_factor = 0;
+    for (unit, area) in sheet.units.iter_mut().zip([1, 3, 2]) {
+        (unit.heated_area, unit.reading) = (area, 0);
+    }
+    sheet
+}
+
 fn in_month(mut sheet: Sheet, month: u8) -> Vec<u8> {
     sheet.header.month = month;
     build_sheet(&sheet)
@@ -170,6 +194,7 @@ fn main() {
     run.computed();
     run.months();
     run.riser_limits();
+    run.ties();
     run.bad_sheets();
     run.other_buildings();
     run.bad_books();

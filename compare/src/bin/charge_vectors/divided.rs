@@ -30,7 +30,8 @@ impl Calls {
         self.add_both(&unread, [1_000, 200, 31]);
     }
 
-    /// Equal remainders with equal and with other weights, and weights of 0.
+    /// Equal remainders with equal and with other weights (request 2026-06), and
+    /// weights of 0.
     pub fn add_ties(&mut self) {
         for loads in [
             [7, 7, 7],
@@ -39,10 +40,15 @@ impl Calls {
             [3, 1, 1],
             [0, 0, 1],
             [1, 0, 0],
+            [1, 3, 2],
+            [1, 7, 4],
+            [7, 1, 4],
+            [1, 0, 3],
         ] {
             let sheet = case_a_with_loads(loads);
             self.add_sheet(&sheet, 1, [10, 11, 1]);
             self.add_sheet(&sheet, 1, [5, 0, 2]);
+            self.add_sheet(&sheet, 1, [3, 4, 8]);
         }
         let equal = building(2, 0, &[(5, 0); 7]);
         let halves = building(2, 0, &[(1, 0), (3, 0), (1, 0), (3, 0)]);

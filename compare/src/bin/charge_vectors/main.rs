@@ -1,4 +1,4 @@
-//! Vectors for request 2026-05: connection power and fees.
+//! Vectors for request 2026-05: connection power and fees; with request 2026-06.
 mod divided;
 mod refused;
 

@@ -1,8 +1,9 @@
-//! Vectors for request 2026-04: several buildings on one meter.
+//! Vectors for request 2026-04: several buildings on one meter; with request
+//! 2026-06.
 mod refused;
 mod settled;
 
-use compare::cases::{building, by_area, by_meters, case_a};
+use compare::cases::{building, by_area, by_meters, case_a, TIES};
 use compare::group::MAX_BUILDINGS;
 use compare::groups::{random_group, Group};
 use compare::rng::Rng;
@@ -71,6 +72,7 @@ fn main() {
     groups.add_past_32_bits();
     groups.add_places_in_buffer();
     groups.add_bills();
+    groups.add_ties();
     groups.add_first_22();
     groups.add_own_refusals();
     groups.add_orders();

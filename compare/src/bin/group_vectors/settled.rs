@@ -133,6 +133,35 @@ impl Groups {
         }
     }
 
+    /// Request 2026-06: equal remainders of the difference, above and below zero, of
+    /// the bill over the buildings, and in a building.
+    pub fn add_ties(&mut self) {
+        for (total, sizes) in TIES {
+            let total = u64::from(total);
+            let by_size = |model, meter: fn(u32) -> u32| -> Vec<Sheet> {
+                let sizes = sizes.iter();
+                sizes
+                    .map(|&size| building(model, meter(size), &[(size, 0)]))
+                    .collect()
+            };
+            self.add_sheets(&by_size(2, |_| 0), total);
+            let meters = by_size(5, |_| 100);
+            let sum = 100 * sizes.len() as u64;
+            self.add_sheets(&meters, sum + total);
+            self.add_sheets(&meters, sum - total);
+            // The bill is the total.
+            let whole = 20 * u64::from(sizes.iter().sum::<u32>());
+            let mut sheets = by_size(2, |size| 20 * size);
+            for sheet in &mut sheets {
+                sheet.header.price = (1_000_000 * total / whole) as u32;
+            }
+            self.add_sheets(&sheets, whole);
+            let rows: Vec<(u32, u32)> = sizes.iter().map(|&size| (size, 0)).collect();
+            let building = building(2, total as u32, &rows);
+            self.add_sheets(&[building.clone(), building], 3 * total);
+        }
+    }
+
     /// 320 units in two buildings, 312 in twelve.
     pub fn add_large(&mut self, rng: &mut Rng) {
         for (count, units) in [(2, 160), (12, 26)] {

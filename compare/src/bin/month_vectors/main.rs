@@ -1,7 +1,8 @@
 //! Vectors for document 01's "Steps of a month" and "Printing", with requests
-//! 2026-01 and 2026-03.
+//! 2026-01, 2026-03 and 2026-06.
 mod heat;
 mod refused;
+mod ties;
 mod water;
 
 use compare::cases::*;
@@ -201,8 +202,10 @@ fn main() {
     sheets.add_refusal_pairs();
     sheets.add_bad_sheets();
     sheets.add_clashes();
+    sheets.add_ties();
     sheets.add_large(&mut rng);
     sheets.add_random(&mut rng);
+    sheets.add_random_ties(&mut rng);
 
     let stdout: String = sheets
         .0

@@ -1,5 +1,5 @@
-//! Vectors for document 01's "Archive record", with requests 2026-01 and
-//! 2026-03.
+//! Vectors for document 01's "Archive record", with requests 2026-01, 2026-03
+//! and 2026-06.
 mod clashes;
 mod versions;
 

@@ -1,4 +1,4 @@
-//! Request 2026-01: records of both archive versions.
+//! Requests 2026-01 and 2026-06: records of every archive version.
 
 use super::*;
 use compare::damage::put;
@@ -15,7 +15,7 @@ impl Records {
     /// settle alike.
     pub fn add_versions(&mut self) {
         let good = record(&good_sheet(4, 1), NEWEST);
-        for version in [0, 1, 2, 3, 256, 257, 258, 512, 65_535] {
+        for version in [0, 1, 2, 3, 4, 256, 257, 258, 259, 512, 65_535] {
             self.add(with_version(&good, version));
         }
         for place in [6, 7] {
@@ -30,11 +30,13 @@ impl Records {
         for sheet in [
             case_c_by_risers([50, 50, 100]),
             case_c_by_risers([0, 50, 100]),
+            other_by_every_version(),
+            building(2, 2, &[(1, 0), (3, 0)]),
             case_a_with_readings([1_000, 0, 0]),
         ] {
             for numbers in RuleSet::ALL {
                 let good = record(&sheet, numbers);
-                for version in [1, 2, 0, 3, 257, 258] {
+                for version in [1, 2, 3, 0, 4, 257, 258, 259] {
                     self.add(with_version(&good, version));
                 }
             }
@@ -45,7 +47,7 @@ impl Records {
     /// statement.
     pub fn add_damaged_versions(&mut self) {
         for rules in RuleSet::ALL {
-            let good = record(&case_c_by_risers([0, 50, 100]), rules);
+            let good = record(&other_by_every_version(), rules);
             self.add_with_damage(&good);
             for length in [4, 6, 7, 8, 55, 56, 152] {
                 self.add(good[..length].to_vec());

@@ -2,6 +2,7 @@
 
 use super::dividing::half_up_share;
 use crate::apportion::apportion;
+use crate::rules::RuleSet;
 use crate::{current, Reading::*};
 
 type Energies = [[u32; 4]];
@@ -18,11 +19,11 @@ pub fn bill(cost: u64) -> Option<u64> {
 }
 
 /// The bill divided over the energies.
-pub fn costs(bill: u64, energies: &Energies) -> Option<Vec<[u32; 4]>> {
+pub fn costs(bill: u64, energies: &Energies, rules: RuleSet) -> Option<Vec<[u32; 4]>> {
     match current()? {
-        BillByColumn => Some(by_column(bill, energies)),
-        BillByUnit => Some(by_unit(bill, energies)),
-        BillInColumnOrder => Some(in_column_order(bill, energies)),
+        BillByColumn => Some(by_column(bill, energies, rules)),
+        BillByUnit => Some(by_unit(bill, energies, rules)),
+        BillInColumnOrder => Some(in_column_order(bill, energies, rules)),
         BillHalfUpEach => Some(half_up_each(bill, energies)),
         _ => None,
     }
@@ -32,13 +33,13 @@ fn column(energies: &Energies, kind: usize) -> Vec<u64> {
     energies.iter().map(|row| u64::from(row[kind])).collect()
 }
 
-fn by_column(bill: u64, energies: &Energies) -> Vec<[u32; 4]> {
+fn by_column(bill: u64, energies: &Energies, rules: RuleSet) -> Vec<[u32; 4]> {
     let sums: Vec<u64> = (0..4)
         .map(|kind| column(energies, kind).iter().sum())
         .collect();
     let mut costs = vec![[0; 4]; energies.len()];
-    for (kind, part) in apportion(bill, &sums).into_iter().enumerate() {
-        let cents = apportion(part.into(), &column(energies, kind));
+    for (kind, part) in apportion(bill, &sums, rules).into_iter().enumerate() {
+        let cents = apportion(part.into(), &column(energies, kind), rules);
         for (cost, cents) in costs.iter_mut().zip(cents) {
             cost[kind] = cents;
         }
@@ -46,19 +47,19 @@ fn by_column(bill: u64, energies: &Energies) -> Vec<[u32; 4]> {
     costs
 }
 
-fn by_unit(bill: u64, energies: &Energies) -> Vec<[u32; 4]> {
+fn by_unit(bill: u64, energies: &Energies, rules: RuleSet) -> Vec<[u32; 4]> {
     let rows: Vec<[u64; 4]> = energies.iter().map(|row| row.map(u64::from)).collect();
     let sums: Vec<u64> = rows.iter().map(|row| row.iter().sum()).collect();
-    let parts = apportion(bill, &sums).into_iter().zip(&rows);
-    let cents = parts.map(|(part, row)| apportion(part.into(), row));
+    let parts = apportion(bill, &sums, rules).into_iter().zip(&rows);
+    let cents = parts.map(|(part, row)| apportion(part.into(), row, rules));
     cents
         .map(|four| [four[0], four[1], four[2], four[3]])
         .collect()
 }
 
-fn in_column_order(bill: u64, energies: &Energies) -> Vec<[u32; 4]> {
+fn in_column_order(bill: u64, energies: &Energies, rules: RuleSet) -> Vec<[u32; 4]> {
     let weights: Vec<u64> = (0..4).flat_map(|kind| column(energies, kind)).collect();
-    let cents = apportion(bill, &weights);
+    let cents = apportion(bill, &weights, rules);
     let count = energies.len();
     (0..count)
         .map(|unit| std::array::from_fn(|kind| cents[kind * count + unit]))

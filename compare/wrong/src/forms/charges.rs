@@ -4,6 +4,7 @@ use super::dividing::half_up_share;
 use crate::apportion::apportion;
 use crate::charges::*;
 use crate::refusal::*;
+use crate::rules::NEWEST;
 use crate::settle::check_month;
 use crate::sheet::{get_u16, Sheet, Unit, HEADER_BYTES};
 use crate::weights::*;
@@ -175,7 +176,7 @@ pub fn reordered([power, buyer_fee, supplier_fee]: [u32; 3]) -> [u32; 3] {
 pub fn columns(sheet: &Sheet, amounts: [u32; 3], weights: &[u64]) -> Option<[Vec<u32>; 3]> {
     let fees_by = |others: &[u64]| {
         let by = [weights, others, others];
-        std::array::from_fn(|place| apportion(u64::from(amounts[place]), by[place]))
+        std::array::from_fn(|place| apportion(u64::from(amounts[place]), by[place], NEWEST))
     };
     match current()? {
         FeesByArea => Some(fees_by(&column(sheet, heated_area))),
@@ -192,7 +193,7 @@ pub fn columns(sheet: &Sheet, amounts: [u32; 3], weights: &[u64]) -> Option<[Vec
 fn as_one_sum(amounts: [u32; 3], weights: &[u64]) -> [Vec<u32>; 3] {
     let parts = |&weight: &u64| amounts.map(|amount| u64::from(amount) * weight);
     let all: Vec<u64> = weights.iter().flat_map(parts).collect();
-    let numbers = apportion(amounts.into_iter().map(u64::from).sum(), &all);
+    let numbers = apportion(amounts.into_iter().map(u64::from).sum(), &all, NEWEST);
     std::array::from_fn(|place| numbers.iter().skip(place).step_by(3).copied().collect())
 }
 

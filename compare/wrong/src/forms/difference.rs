@@ -3,6 +3,7 @@
 use super::dividing::half_up_share;
 use crate::group::total_area;
 use crate::refusal::*;
+use crate::rules::NEWEST;
 use crate::settle::common_heat;
 use crate::sheet::Sheet;
 use crate::weights::*;
@@ -25,13 +26,17 @@ pub fn bent(difference: i64) -> i64 {
     }
 }
 
+fn common_heat_now(sheet: &Sheet) -> u64 {
+    common_heat(sheet, NEWEST)
+}
+
 /// What the difference is divided by.
 pub fn weights(sheets: &[Sheet]) -> Option<Vec<u64>> {
     let weight: fn(&Sheet) -> u64 = match current()? {
         DifferenceByMeters => |sheet| u64::from(sheet.header.shared_meter_wh),
         DifferenceByUnits => |sheet| sheet.units.len() as u64,
         DifferenceEqually => |_| 1,
-        DifferenceByCommonHeat => common_heat,
+        DifferenceByCommonHeat => common_heat_now,
         DifferenceOfReadUnits => |sheet| sum(read_units(sheet), heated_area),
         DifferenceOfModels3To5 => |sheet| match sheet.header.model {
             1 | 2 => 0,
@@ -123,19 +128,19 @@ pub fn goes_below_zero(sheets: &[Sheet], shares: &[i64]) -> Option<bool> {
             i64::from(sheet.header.shared_meter_wh) + share < 0
         })),
         ZeroHeatRefused => Some(any(|sheet, share| {
-            share < 0 && common_heat(sheet) as i64 + share <= 0
+            share < 0 && common_heat_now(sheet) as i64 + share <= 0
         })),
         ShareOfZeroRefused => {
-            let none = any(|sheet, _| common_heat(sheet) == 0);
-            let below = any(|sheet, share| common_heat(sheet) as i64 + share < 0);
+            let none = any(|sheet, _| common_heat_now(sheet) == 0);
+            let below = any(|sheet, share| common_heat_now(sheet) as i64 + share < 0);
             Some(below || is_negative && none)
         }
         DeficitRefused => Some(is_negative),
         BelowZeroInAll => {
-            let heats: u64 = sheets.iter().map(common_heat).sum();
+            let heats: u64 = sheets.iter().map(common_heat_now).sum();
             Some(heats as i64 + shares.iter().sum::<i64>() < 0)
         }
-        BelowZeroOfFirst => Some(common_heat(&sheets[0]) as i64 + shares[0] < 0),
+        BelowZeroOfFirst => Some(common_heat_now(&sheets[0]) as i64 + shares[0] < 0),
         _ => None,
     }
 }
@@ -143,7 +148,7 @@ pub fn goes_below_zero(sheets: &[Sheet], shares: &[i64]) -> Option<bool> {
 /// 21 with a place.
 pub fn before_refusal(sheets: &[Sheet], shares: &[i64]) -> Result<(), Refusal> {
     let mut buildings = sheets.iter().zip(shares);
-    let below = buildings.position(|(sheet, &share)| common_heat(sheet) as i64 + share < 0);
+    let below = buildings.position(|(sheet, &share)| common_heat_now(sheet) as i64 + share < 0);
     match below {
         Some(place) if misread(BelowZeroWithPlace) => refuse_at(NEGATIVE_COMMON_HEAT, 160 * place),
         _ => Ok(()),

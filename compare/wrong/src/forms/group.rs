@@ -2,6 +2,7 @@
 
 use crate::group::*;
 use crate::refusal::*;
+use crate::rules::NEWEST;
 use crate::sheet::{check, get_u16, get_u32, read_sheet, Sheet, HEADER_BYTES, MAX_WH, ROW_BYTES};
 use crate::{current, misread, Reading::*};
 
@@ -262,8 +263,11 @@ pub fn before_list(sheets: &[Sheet], shared_wh: u64) -> Result<(), Refusal> {
 }
 
 fn difference_first(sheets: &[Sheet], shared_wh: u64) -> Result<(), Refusal> {
-    let shares = difference_shares(sheets, shared_wh);
-    refuse_if(goes_below_zero(sheets, &shares), NEGATIVE_COMMON_HEAT)
+    let shares = difference_shares(sheets, shared_wh, NEWEST);
+    refuse_if(
+        goes_below_zero(sheets, &shares, NEWEST),
+        NEGATIVE_COMMON_HEAT,
+    )
 }
 
 /// The length that 13 wants.

@@ -9,7 +9,17 @@ use crate::weights::{heated_area, hot_water};
 use crate::{current, misread, Reading::*};
 
 pub fn rules() -> Option<RuleSet> {
-    misread(GroupByVersion1).then_some(RuleSet::Archive1)
+    match current()? {
+        GroupByVersion1 => Some(RuleSet::Archive1),
+        GroupByVersion2 => Some(RuleSet::Archive2),
+        _ => None,
+    }
+}
+
+/// The rules of the buildings' months, where others divide the difference and the
+/// bill.
+pub fn rules_of_months() -> Option<RuleSet> {
+    misread(GroupMonthsByVersion2).then_some(RuleSet::Archive2)
 }
 
 /// The buildings' parts of the bill.
@@ -23,15 +33,16 @@ pub fn parts(sheets: &[Sheet], bill_cents: u32, readings: &[u64]) -> Option<Vec<
     let last = sheets.len() - 1;
     match current()? {
         OwnBillsKept => Some(meters.iter().map(|&meter| bill(meter, price)).collect()),
-        BillByOwnMeters => Some(apportion(whole, &meters)),
+        BillByOwnMeters => Some(apportion(whole, &meters, NEWEST)),
         BillByTotalAreas => {
             let areas: Vec<u64> = sheets.iter().map(total_area).collect();
-            Some(apportion(whole, &areas))
+            Some(apportion(whole, &areas, NEWEST))
         }
         BillRoundedByBuilding => Some(readings.iter().map(|&wh| bill(wh, price)).collect()),
         BillOfMeterSum => Some(apportion(
             u64::from(bill(meters.iter().sum(), price)),
             readings,
+            NEWEST,
         )),
         BillLeftoverToLastBuilding => {
             let sum: u64 = readings.iter().sum();
@@ -48,21 +59,22 @@ pub fn parts(sheets: &[Sheet], bill_cents: u32, readings: &[u64]) -> Option<Vec<
 pub fn statements(sheets: &[Sheet], shares: &[i64], bill_cents: u32) -> Option<Vec<u32>> {
     let right = energies(sheets, shares);
     let readings: Vec<u64> = right.iter().map(|building| reading(building)).collect();
-    let parts = apportion(u64::from(bill_cents), &readings);
+    let parts = apportion(u64::from(bill_cents), &readings, NEWEST);
     match current()? {
         BillOverAllEnergies => {
             let all: Vec<[u32; 4]> = right.concat();
-            Some(statement(&all, &costs(bill_cents, &all)))
+            Some(statement(&all, &costs(bill_cents, &all, NEWEST)))
         }
         BillByOwnEnergies => {
             let own = energies(sheets, &vec![0; sheets.len()]);
             let buildings = right.iter().zip(&own).zip(parts);
-            let numbers = buildings.map(|((all, own), part)| statement(all, &costs(part, own)));
+            let numbers =
+                buildings.map(|((all, own), part)| statement(all, &costs(part, own, NEWEST)));
             Some(numbers.collect::<Vec<_>>().concat())
         }
         LastBuildingFirst => {
             let buildings = right.iter().zip(parts).rev();
-            let numbers = buildings.map(|(all, part)| statement(all, &costs(part, all)));
+            let numbers = buildings.map(|(all, part)| statement(all, &costs(part, all, NEWEST)));
             Some(numbers.collect::<Vec<_>>().concat())
         }
         DifferenceByAllUnits => Some(by_all_units(sheets, shares, parts)),
@@ -76,7 +88,7 @@ pub fn statements(sheets: &[Sheet], shares: &[i64], bill_cents: u32) -> Option<V
 fn energies(sheets: &[Sheet], shares: &[i64]) -> Vec<Vec<[u32; 4]>> {
     let buildings = sheets.iter().zip(shares);
     let energies = buildings.map(|(sheet, &share)| {
-        let common_heat = adjusted_common_heat(sheet, share) as u64;
+        let common_heat = adjusted_common_heat(sheet, share, NEWEST) as u64;
         let numbers = numbers(sheet, NEWEST, common_heat, 0);
         let units = numbers.chunks(8);
         units
@@ -98,14 +110,14 @@ fn by_all_units(sheets: &[Sheet], shares: &[i64], parts: Vec<u32>) -> Vec<u32> {
         .flat_map(|s| &s.units)
         .map(heated_area)
         .collect();
-    let mut unit_shares = wide_shares(difference.unsigned_abs(), &areas).into_iter();
+    let mut unit_shares = wide_shares(difference.unsigned_abs(), &areas, NEWEST).into_iter();
     let mut own = energies(sheets, &vec![0; sheets.len()]);
     for unit in own.iter_mut().flatten() {
         let share = unit_shares.next().expect("a share a unit") as i64;
         unit[1] = (i64::from(unit[1]) + difference.signum() * share).max(0) as u32;
     }
     let buildings = own.iter().zip(parts);
-    let numbers = buildings.map(|(all, part)| statement(all, &costs(part, all)));
+    let numbers = buildings.map(|(all, part)| statement(all, &costs(part, all, NEWEST)));
     numbers.collect::<Vec<_>>().concat()
 }
 
@@ -117,11 +129,11 @@ fn after_step_5(sheets: &[Sheet], shares: &[i64], parts: &[u32]) -> Vec<u32> {
         let areas: Vec<u64> = sheet.units.iter().map(heated_area).collect();
         for (unit, size) in units
             .iter_mut()
-            .zip(wide_shares(share.unsigned_abs(), &areas))
+            .zip(wide_shares(share.unsigned_abs(), &areas, NEWEST))
         {
             unit[1] = (i64::from(unit[1]) + share.signum() * size as i64).max(0) as u32;
         }
-        statement(units, &costs(part, units))
+        statement(units, &costs(part, units, NEWEST))
     });
     numbers.collect::<Vec<_>>().concat()
 }
@@ -137,7 +149,7 @@ fn in_meter(sheets: &[Sheet], shares: &[i64], parts: &[u32]) -> Option<Vec<u32>>
             return None;
         }
         sheet.header.shared_meter_wh = meter as u32;
-        all.extend(numbers(&sheet, NEWEST, common_heat(&sheet), part));
+        all.extend(numbers(&sheet, NEWEST, common_heat(&sheet, NEWEST), part));
     }
     Some(all)
 }

@@ -66,13 +66,13 @@ pub fn whole_weight(sheet: &Sheet) -> Option<u64> {
 }
 
 /// Step 3: the shares of the units not read and of the metered pool.
-pub fn pool_shares(unit_heat: u64, weights: &[u64]) -> Option<Vec<u32>> {
+pub fn pool_shares(unit_heat: u64, weights: &[u64], rules: RuleSet) -> Option<Vec<u32>> {
     if !misread(RestFirst) {
         return None;
     }
     let mut weights = weights.to_vec();
     weights.rotate_right(1);
-    let mut shares = apportion(unit_heat, &weights);
+    let mut shares = apportion(unit_heat, &weights, rules);
     shares.rotate_left(1);
     Some(shares)
 }
@@ -89,8 +89,13 @@ pub fn basis_sum(sheet: &Sheet) -> Option<u64> {
 }
 
 /// Step 4: whether model 4 has limits by request 2026-01.
-pub fn limits_risers() -> bool {
-    !misread(RiserNoLimits)
+pub fn limits_risers(rules: RuleSet) -> bool {
+    match current() {
+        Some(RiserNoLimits) => false,
+        Some(RiserNoLimitsIn2) => rules != RuleSet::Archive2,
+        Some(RiserNoLimitsIn3) => rules != RuleSet::Archive3,
+        _ => true,
+    }
 }
 
 /// Step 4: the weight of a read unit.
@@ -169,7 +174,7 @@ pub fn limited_shares(sheet: &Sheet, pool: u32, mut shares: Vec<u32>, rules: Rul
         _ => return shares,
     };
     let middles: Vec<u64> = read_units(sheet).map(field).collect();
-    let middles = apportion(pool.into(), &middles);
+    let middles = apportion(pool.into(), &middles, rules);
     for ((share, unit), middle) in shares.iter_mut().zip(read_units(sheet)).zip(middles) {
         if has_limits(sheet, unit, rules) {
             let middle = u64::from(middle);

@@ -19,4 +19,5 @@ pub mod rules;
 pub mod sheet;
 pub mod splits;
 pub mod sums;
+pub mod ties;
 pub mod water;

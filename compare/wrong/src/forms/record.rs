@@ -5,20 +5,21 @@ use crate::record::{head, record_of, HEAD_BYTES};
 use crate::refusal::*;
 use crate::rules::RuleSet;
 use crate::sheet::{check, get_u16, HEADER_BYTES, RECORD_UNIT_BYTES};
-use crate::{current, misread, Reading::*};
+use crate::{current, misread, Reading, Reading::*};
 
 /// The rules that a head names: those of another head, read rightly.
 pub fn named_rules(record: &[u8]) -> Option<Option<RuleSet>> {
     let mut head = *record.first_chunk::<HEAD_BYTES>()?;
     match (current()?, get_u16(record, 4)) {
         (HeadZeros, _) => head[6..].fill(0),
-        (HeadVersion, version) if version != 1 => head[4..6].copy_from_slice(&[2, 0]),
+        (HeadVersion, 0 | 4..) => head[4..6].copy_from_slice(&[3, 0]),
         (HeadVersionIn8Bits, _) => head[5] = 0,
         (Version0Accepted, 0) => head[4] = 1,
-        (Version3Accepted, 3) => head[4] = 2,
-        (Version1Refused, 1) => head[4] = 0,
-        (Version1ByNewest, 1) => head[4] = 2,
-        (Version2ByVersion1, 2) => head[4] = 1,
+        (Version4Accepted, 4) => head[4] = 3,
+        (Version1Refused, 1) | (Version2Refused, 2) | (Version3Refused, 3) => head[4] = 0,
+        (Version2ByVersion1, 2) | (Version3ByVersion1, 3) => head[4] = 1,
+        (Version1ByVersion2, 1) | (Version3ByVersion2, 3) => head[4] = 2,
+        (Version1ByNewest, 1) | (Version2ByNewest, 2) => head[4] = 3,
         _ => return None,
     }
     Some(crate::record::named_rules(&head))
@@ -26,13 +27,24 @@ pub fn named_rules(record: &[u8]) -> Option<Option<RuleSet>> {
 
 /// The record that the writer writes.
 pub fn written(sheet: &[u8], mut record: Vec<u8>) -> Vec<u8> {
-    let old = || record_of(sheet, RuleSet::Archive1).expect("the sheet settles");
+    let rules = match current() {
+        Some(
+            WrittenHead1 | WrittenByVersion1 | WrittenAsVersion1 | WrittenAsVersion1UnlessModel4,
+        ) => RuleSet::Archive1,
+        Some(WrittenHead2 | WrittenByVersion2 | WrittenAsVersion2 | WrittenAsVersion2IfAlike) => {
+            RuleSet::Archive2
+        }
+        _ => return record,
+    };
+    let old = record_of(sheet, rules).expect("the sheet settles");
     match current() {
-        Some(WrittenHead1) => record[..HEAD_BYTES].copy_from_slice(&head(RuleSet::Archive1)),
-        Some(WrittenAsVersion1UnlessModel4) if sheet[7] != 4 => return old(),
-        Some(WrittenByVersion1) => record[HEAD_BYTES..].copy_from_slice(&old()[HEAD_BYTES..]),
-        Some(WrittenAsVersion1) => return old(),
-        _ => {}
+        Some(WrittenHead1 | WrittenHead2) => record[..HEAD_BYTES].copy_from_slice(&head(rules)),
+        Some(WrittenByVersion1 | WrittenByVersion2) => {
+            record[HEAD_BYTES..].copy_from_slice(&old[HEAD_BYTES..]);
+        }
+        Some(WrittenAsVersion1UnlessModel4) if sheet[7] == 4 => {}
+        Some(WrittenAsVersion2IfAlike) if old[HEAD_BYTES..] != record[HEAD_BYTES..] => {}
+        _ => return old,
     }
     record
 }
@@ -49,12 +61,11 @@ pub fn before_head(record: &[u8], head_len: usize) -> Result<(), Refusal> {
 /// A refusal of the sheet inside a record.
 pub fn sheet_refusal(rules: RuleSet, refusal: Refusal) -> Refusal {
     let Refusal { number, place } = refusal;
-    let is_old = rules == RuleSet::Archive1;
     let (number, place) = match (current(), number) {
         (Some(StatementBeforeSheet), ROW_FIELD..) => (BAD_ARCHIVE, 0),
         (Some(RecordClashAs14), FIELD_CONFLICT) => (BAD_ARCHIVE, 0),
-        (Some(Version1ClashAsRow), FIELD_CONFLICT) if is_old => (ROW_FIELD, place),
-        (Some(Version1HeaderWithoutByte), HEADER_FIELD) if is_old => (number, 0),
+        (Some(reading), FIELD_CONFLICT) if without_clash(reading, rules) => (ROW_FIELD, place),
+        (Some(reading), HEADER_FIELD) if without_byte(reading, rules) => (number, 0),
         (Some(HeaderFromRecord), HEADER_FIELD) => (number, place + 8),
         (Some(RecordRowAtByte), ROW_FIELD) => (number, 56 + 32 * place),
         _ => (number, place),
@@ -62,9 +73,29 @@ pub fn sheet_refusal(rules: RuleSet, refusal: Refusal) -> Refusal {
     Refusal { number, place }
 }
 
+/// Whether a record's rules are taken to have no 20.
+fn without_clash(reading: Reading, rules: RuleSet) -> bool {
+    match rules {
+        RuleSet::Archive1 => reading == Version1ClashAsRow,
+        RuleSet::Archive2 => reading == Version2ClashAsRow,
+        RuleSet::Archive3 => false,
+    }
+}
+
+/// Whether a record's rules are taken to have 4 without its byte.
+fn without_byte(reading: Reading, rules: RuleSet) -> bool {
+    match rules {
+        RuleSet::Archive1 => reading == Version1HeaderWithoutByte,
+        RuleSet::Archive2 => reading == Version2HeaderWithoutByte,
+        RuleSet::Archive3 => false,
+    }
+}
+
 /// Whether a statement passes that differs.
-pub fn statement_passes(sheet: &[u8], statement: &[u8], expected: &[u8]) -> bool {
+pub fn statement_passes(rules: RuleSet, sheet: &[u8], statement: &[u8], expected: &[u8]) -> bool {
     let last = expected.len() - 4;
+    let is_of =
+        |rules: RuleSet| record_of(sheet, rules).is_ok_and(|record| record.ends_with(statement));
     match current() {
         Some(LastNumber) => {
             statement.len() == expected.len() && statement[..last] == expected[..last]
@@ -73,9 +104,9 @@ pub fn statement_passes(sheet: &[u8], statement: &[u8], expected: &[u8]) -> bool
             let rows = statement.chunks(32).zip(expected.chunks(32));
             statement.len() == expected.len() && rows.into_iter().all(|(a, b)| a[..16] == b[..16])
         }
-        Some(NumbersOfAnyVersion) => RuleSet::ALL
-            .into_iter()
-            .any(|rules| record_of(sheet, rules).is_ok_and(|record| record.ends_with(statement))),
+        Some(NumbersOfAnyVersion) => RuleSet::ALL.into_iter().any(is_of),
+        Some(NumbersOfVersion2In3) => rules == RuleSet::Archive3 && is_of(RuleSet::Archive2),
+        Some(NumbersOfVersion3In2) => rules == RuleSet::Archive2 && is_of(RuleSet::Archive3),
         _ => false,
     }
 }

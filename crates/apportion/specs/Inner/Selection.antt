@@ -1,5 +1,6 @@
 -- What the functions promise that round down and that choose, without sorting, who gets the leftover.
-use Rattle.std.specs.Prelude.{Bool, true, false, ◌&&◌, ◌≡◌, List, [], ◌∷◌, map, filter, ℕ, suc, ◌-◌, ◌≤◌, ◌<◌, max, if◌then◌else◌, nat_le, nat_lt, ◌==◌, length, take}
+use Rattle.std.specs.Prelude.{Bool, true, false, ◌&&◌, ◌≡◌, List, [], ◌∷◌, map, filter, ℕ, suc, ◌+◌, ◌*◌, ◌-◌, ◌≤◌, ◌<◌, max, if◌then◌else◌, nat_le, nat_lt, ◌==◌, length, get_or, take}
+use mathlib.Core.List.{zip_with}
 use Rattle.apportion.specs.Shares.{sum, quota, remainder, bit, at_least}
 
 -- the largest key, 0 if there is none
@@ -63,3 +64,25 @@ tie false spare = 0
 abbrev pub ties : ℕ → ℕ → List ℕ → List ℕ
 ties θ spare [] = []
 ties θ spare (k ∷ ks) = tie (k == θ) spare ∷ ties θ (spare - tie (k == θ) spare) ks
+
+-- ---- the weights at a threshold of the keys
+-- an item's weight where its key is θ, else 0
+abbrev pub weight_at : ℕ → ℕ → ℕ → ℕ
+weight_at θ k w = if k == θ then w else 0
+
+abbrev pub tied : ℕ → List ℕ → List ℕ → List ℕ
+tied θ ks ws = zip_with (weight_at θ) ks ws
+
+-- key and weight as one number, with no weight past `whole`
+abbrev pub paired : ℕ → List ℕ → List ℕ → List ℕ
+paired whole ks ws = zip_with (λ k w. k * (whole + 1) + w) ks ws
+
+-- an item without a weight has no key above 0
+abbrev pub NoneForNone : List ℕ → List ℕ → Type 0
+NoneForNone ws ks = (j : ℕ) → get_or ws j 0 ≡ 0 → get_or ks j 0 ≡ 0
+
+-- the weights at θ, the largest of them, and how many are above 0
+pub record WeightsKept (θ : ℕ) (ws keys : List ℕ) (top positive : ℕ) (kept : List ℕ) : Type 0 where
+  pub is-kept : kept ≡ tied θ keys ws
+  pub is-largest : top ≡ largest (tied θ keys ws)
+  pub is_positive : positive ≡ at_least 1 (tied θ keys ws)

@@ -1,5 +1,5 @@
 -- Computed cases, from the bytes on: the record of case A (document 01, "Cases for the proofs") of each archive version read, damaged, cut, lengthened and written, and
--- records that the archive versions settle differently (2026-01). One table, one theorem.
+-- records that the archive versions settle differently (2026-01, 2026-06). One table, one theorem.
 use Rattle.std.specs.Prelude.{◌≡◌, refl, List, [], ◌∷◌, ◌++◌, map, ℕ, take, drop, Ok, Err}
 use Rattle.apportion.specs.Shares.{shares_by}
 use Rattle.sheet.specs.Refusals.{Outcome, number_of, place_of, first_refusal}
@@ -10,7 +10,6 @@ use Rattle.sheet.specs.Cases.Samples.{zeros, put, unit_bytes, joined, sheet_byte
 use Rattle.month.specs.Weights.{all_metered, metered_sum, has_pool, total_area, unread_weight, unread_weights, pool_weight, reading_sum, read_area, read_surface, area_weight, surface_weight, read_weight, read_weights, units_of_class, litres_of_class1, persons_of_class2, water_weight}
 use Rattle.month.specs.Steps.{split_by, in_unit_order, unit_by_unit, hot_water, space_heat, heat_parts, pool_shares, read_shares, heat, common_heat, water_parts, water, common_water, energies}
 use Rattle.month.specs.Month.{hot_water_wh, space_heat_wh, zero_water_divisor, zero_divisor, month_rules, bill_cents, costs, four_and_four, statement_of, month_of, settle_rules, settled_sheet}
-use Rattle.month.specs.Cases.Months.{risers, risers_c}
 use Rattle.archive.specs.Record.{archive_record}
 use Rattle.archive.specs.Reader.{head_among, body_rules, read_rules, read_outcome, start_of, count_of}
 use Rattle.archive.specs.Writer.{write_answer, record_after}
@@ -42,21 +41,22 @@ head archive = 72 ∷ 67 ∷ 65 ∷ 0 ∷ archive ∷ 0 ∷ 0 ∷ 0 ∷ []
 unfoldable pub record_a : (archive : ℕ) → List ℕ
 record_a archive = head archive ++ (header ++ (unit 11 244 1 100 0 ++ (unit 12 244 1 44 1 ++ (unit 13 232 3 88 2 ++ statement_a))))
 
--- ---- case C by risers, s 50, 50, 100, with the numbers of either archive version
+-- ---- a month that each archive version settles differently
+-- Model 4, v 30, z 20, M 30; p 100 and 300, s 50 and 150, b 1,000 and 0. Heat 24 Wh by r 15.5 and 4.5 millions, limited 15 and 6; common heat 6 Wh by p, 1.5 and 4.5.
+tied_risers : List ℕ
+tied_risers = sheet_bytes 1 4 0 30 20 0 30 0 30 100000 (zeros 6) (unit_bytes 11 0 0 1000 100 50 0 1000 0 0 ∷ unit_bytes 12 0 0 1000 300 150 0 0 0 0 ∷ [])
+
 by_archive1 : List ℕ
-by_archive1 = 620000 ∷ 50000 ∷ 0 ∷ 0 ∷ 6200 ∷ 500 ∷ 0 ∷ 0
-    ∷ 60000 ∷ 50000 ∷ 0 ∷ 0 ∷ 600 ∷ 500 ∷ 0 ∷ 0
-    ∷ 120000 ∷ 100000 ∷ 0 ∷ 0 ∷ 1200 ∷ 1000 ∷ 0 ∷ 0
-    ∷ []
+by_archive1 = 19 ∷ 2 ∷ 0 ∷ 0 ∷ 2 ∷ 0 ∷ 0 ∷ 0 ∷ 5 ∷ 4 ∷ 0 ∷ 0 ∷ 1 ∷ 0 ∷ 0 ∷ 0 ∷ []
 
 by_archive2 : List ℕ
-by_archive2 = 571429 ∷ 50000 ∷ 0 ∷ 0 ∷ 5714 ∷ 500 ∷ 0 ∷ 0
-    ∷ 76190 ∷ 50000 ∷ 0 ∷ 0 ∷ 762 ∷ 500 ∷ 0 ∷ 0
-    ∷ 152381 ∷ 100000 ∷ 0 ∷ 0 ∷ 1524 ∷ 1000 ∷ 0 ∷ 0
-    ∷ []
+by_archive2 = 17 ∷ 2 ∷ 0 ∷ 0 ∷ 2 ∷ 0 ∷ 0 ∷ 0 ∷ 7 ∷ 4 ∷ 0 ∷ 0 ∷ 1 ∷ 0 ∷ 0 ∷ 0 ∷ []
 
-record_c : (archive : ℕ) → (numbers : List ℕ) → List ℕ
-record_c archive numbers = head archive ++ (risers_c 50 1000 ++ in_bytes numbers)
+by_archive3 : List ℕ
+by_archive3 = 17 ∷ 1 ∷ 0 ∷ 0 ∷ 2 ∷ 0 ∷ 0 ∷ 0 ∷ 7 ∷ 5 ∷ 0 ∷ 0 ∷ 1 ∷ 0 ∷ 0 ∷ 0 ∷ []
+
+record_t : (archive : ℕ) → (numbers : List ℕ) → List ℕ
+record_t archive numbers = head archive ++ (tied_risers ++ in_bytes numbers)
 
 -- ---- answers: the bytes handed back or written, or number and place with the bytes left
 pub data Answer : Type 0 where
@@ -88,12 +88,13 @@ pub cases : List Case
 cases =
     (reads (record_a 1) gives accepts case_a)
     ∷ (reads (record_a 2) gives accepts case_a)
-    -- 14: under 8 bytes; mark, versions 0, 3 and 257, last byte of the head
+    ∷ (reads (record_a 3) gives accepts case_a)
+    -- 14: under 8 bytes; mark, versions 0, 4 and 257, last byte of the head
     ∷ (reads [] gives refuses 14 0 [])
     ∷ (reads (take 7 (record_a 1)) gives refuses 14 0 [])
     ∷ (reads (put 0 0 (record_a 1)) gives refuses 14 0 [])
     ∷ (reads (record_a 0) gives refuses 14 0 [])
-    ∷ (reads (record_a 3) gives refuses 14 0 [])
+    ∷ (reads (record_a 4) gives refuses 14 0 [])
     ∷ (reads (put 5 1 (record_a 1)) gives refuses 14 0 [])
     ∷ (reads (put 7 1 (record_a 1)) gives refuses 14 0 [])
     -- the sheet's, from byte 8: 1, 2, 4, 5, 6, 20, 12. The place of 4 is counted from there: v, two faults, v without its model, h6
@@ -103,6 +104,7 @@ cases =
     ∷ (reads (put 14 13 (put 18 4 (record_a 1))) gives refuses 4 6 [])
     ∷ (reads (put 15 2 (record_a 2)) gives refuses 4 11 [])
     ∷ (reads (put 52 1 (record_a 2)) gives refuses 4 44 [])
+    ∷ (reads (put 52 1 (record_a 3)) gives refuses 4 44 [])
     ∷ (reads (take 247 (record_a 1)) gives refuses 5 0 [])
     ∷ (reads (record_a 1 ++ zeros 1) gives refuses 5 0 [])
     ∷ (reads (put 124 5 (record_a 1)) gives refuses 6 2 [])
@@ -114,14 +116,19 @@ cases =
     ∷ (reads (put 152 33 (record_a 1)) gives refuses 14 0 [])
     ∷ (reads (put 200 137 (record_a 1)) gives refuses 14 0 [])
     ∷ (reads (put 247 1 (record_a 1)) gives refuses 14 0 [])
-    -- each version by its own rules: the other's numbers are 14
-    ∷ (reads (record_c 1 by_archive1) gives accepts (risers_c 50 1000))
-    ∷ (reads (record_c 1 by_archive2) gives refuses 14 0 [])
-    ∷ (reads (record_c 2 by_archive1) gives refuses 14 0 [])
-    ∷ (reads (record_c 2 by_archive2) gives accepts (risers_c 50 1000))
+    -- each version by its own rules: the numbers of another are 14
+    ∷ (reads (record_t 1 by_archive1) gives accepts tied_risers)
+    ∷ (reads (record_t 1 by_archive2) gives refuses 14 0 [])
+    ∷ (reads (record_t 1 by_archive3) gives refuses 14 0 [])
+    ∷ (reads (record_t 2 by_archive1) gives refuses 14 0 [])
+    ∷ (reads (record_t 2 by_archive2) gives accepts tied_risers)
+    ∷ (reads (record_t 2 by_archive3) gives refuses 14 0 [])
+    ∷ (reads (record_t 3 by_archive1) gives refuses 14 0 [])
+    ∷ (reads (record_t 3 by_archive2) gives refuses 14 0 [])
+    ∷ (reads (record_t 3 by_archive3) gives accepts tied_risers)
     -- written; 13 on a list of another length; 5, 4 and 20 before 13
-    ∷ (writes case_a (zeros 248) gives accepts (record_a 2))
-    ∷ (writes (risers_c 50 1000) (zeros 248) gives accepts (record_c 2 by_archive2))
+    ∷ (writes case_a (zeros 248) gives accepts (record_a 3))
+    ∷ (writes tied_risers (zeros 184) gives accepts (record_t 3 by_archive3))
     ∷ (writes case_a (7 ∷ zeros 246) gives refuses 13 0 (7 ∷ zeros 246))
     ∷ (writes (take 143 case_a) (7 ∷ []) gives refuses 5 0 (7 ∷ []))
     ∷ (writes (put 14 36 case_a) (7 ∷ []) gives refuses 4 14 (7 ∷ []))
@@ -129,7 +136,7 @@ cases =
     ∷ []
 
 pub all-cases : map given cases ≡ map expected cases
-unfolding cases statement_a record_a risers risers_c by_archive1 by_archive2 record_c reads writes
+unfolding cases statement_a record_a tied_risers by_archive1 by_archive2 by_archive3 record_t reads writes
     unit_bytes joined sheet_bytes in_bytes archive_record head_among body_rules read_rules read_outcome write_answer record_after
     shares_by all any first_refusal unit_row rows sheet_of header_tests row_tests field_rules row_rules sheet_rules
     all_metered metered_sum has_pool total_area unread_weight unread_weights pool_weight reading_sum read_area read_surface area_weight surface_weight read_weight read_weights units_of_class litres_of_class1 persons_of_class2 water_weight

@@ -1,4 +1,5 @@
--- Computed cases of fixed charges, from the sheet's bytes on, worked by hand: accepted calls with all numbers, and each refusal with its place and order (2026-05).
+-- Computed cases of fixed charges, from the sheet's bytes on, worked by hand, by the rules of each archive version: accepted calls with all numbers, ties by both rules (2026-06),
+-- and each refusal with its place and order (2026-05).
 use Rattle.std.specs.Prelude.{◌≡◌, refl, List, [], ◌∷◌, ◌++◌, map, ℕ, replicate, Ok, Err}
 use Rattle.apportion.specs.Shares.{shares_by}
 use Rattle.sheet.specs.Tests.{all, any}
@@ -6,10 +7,10 @@ use Rattle.sheet.specs.declared.refusal.Refusal.{Refusal}
 use Rattle.sheet.specs.declared.refusal.Refusal.TheVariants.{TooShort, BadMagic, UnsupportedVersion, HeaderField, WrongLength, RowField, IdOrder, HotWaterExceedsMeter, ZeroDivisor, NoReadings, MetersExceedHeat, UnmeteredExceedsHeat, BufferLength, FieldConflict}
 use Rattle.sheet.specs.Refusals.{Outcome, place_of, first_refusal}
 use Rattle.sheet.specs.declared.rule_set.RuleSet.{RuleSet}
-use Rattle.sheet.specs.declared.rule_set.RuleSet.TheVariants.{Archive1, Archive2}
+use Rattle.sheet.specs.declared.rule_set.RuleSet.TheVariants.{Archive1, Archive2, Archive3}
 use Rattle.sheet.specs.Layout.{in_bytes, unit_row, rows, sheet_of}
 use Rattle.sheet.specs.Check.{header_tests, row_tests, field_rules, row_rules, sheet_rules}
-use Rattle.sheet.specs.Cases.Samples.{zeros, put, unit_bytes, joined, sheet_bytes, sheet_a}
+use Rattle.sheet.specs.Cases.Samples.{zeros, put, unit_bytes, joined, sheet_bytes, sheet_a, by_ties}
 use Rattle.month.specs.Weights.{all_metered, metered_sum, has_pool, total_area, unread_weight, unread_weights, read_surface, units_of_class, litres_of_class1, persons_of_class2}
 use Rattle.month.specs.Steps.{split_by, hot_water, space_heat, heat_parts}
 use Rattle.month.specs.Month.{hot_water_wh, space_heat_wh, zero_water_divisor, zero_divisor, month_rules, settle_rules}
@@ -131,8 +132,10 @@ accepted_cases rules =
     ∷ call rules (three 1) 2 1000 204 33 9 gives numbers (500 ∷ 102 ∷ 16 ∷ 300 ∷ 61 ∷ 10 ∷ 200 ∷ 41 ∷ 7 ∷ [])
     -- Ties by equal q: 10 in thirds is 4, 3, 3; 11 is 4, 4, 3; 1 is 1, 0, 0.
     ∷ call rules ties 1 10 11 1 9 gives numbers (4 ∷ 4 ∷ 1 ∷ 3 ∷ 4 ∷ 0 ∷ 3 ∷ 3 ∷ 0 ∷ [])
-    -- Ties by p 1 and 3 are the earlier unit's: 0.5, 1.5, 2 and 1.5, 4.5, 6. Of 7 cents 0.875, 2.625, 3.5 are due: two left over, for the first two.
-    ∷ call rules ties 2 4 12 7 9 gives numbers (1 ∷ 2 ∷ 1 ∷ 1 ∷ 4 ∷ 3 ∷ 2 ∷ 6 ∷ 3 ∷ [])
+    -- Ties by p 1 and 3: 0.5, 1.5, 2 and 1.5, 4.5, 6. Of 7 cents 0.875, 2.625, 3.5 are due: two left over, for the first two.
+    ∷ call rules ties 2 4 12 7 9 gives by_ties rules (numbers (1 ∷ 2 ∷ 1 ∷ 1 ∷ 4 ∷ 3 ∷ 2 ∷ 6 ∷ 3 ∷ [])) (numbers (0 ∷ 1 ∷ 1 ∷ 2 ∷ 5 ∷ 3 ∷ 2 ∷ 6 ∷ 3 ∷ []))
+    -- By q 1 and 3, where p is 2 and 3: 0.5 and 1.5, 1.5 and 4.5, 2.5 and 7.5.
+    ∷ call rules good 1 2 6 10 6 gives by_ties rules (numbers (1 ∷ 2 ∷ 3 ∷ 1 ∷ 4 ∷ 7 ∷ [])) (numbers (0 ∷ 1 ∷ 2 ∷ 2 ∷ 5 ∷ 8 ∷ []))
     -- At the limit: in thirds, by 1, 3, 4, and of one unit.
     ∷ call rules ties 1 100000000 100000000 100000000 9
     gives numbers (33333334 ∷ 33333334 ∷ 33333334 ∷ 33333333 ∷ 33333333 ∷ 33333333 ∷ 33333333 ∷ 33333333 ∷ 33333333 ∷ [])
@@ -204,3 +207,4 @@ unfolding cases accepted_cases refused_cases unsettled simple three ties one_wit
     charge_weights columns by_unit fixed_charges over_limit no_load call_rules charge_answer charges_after
 all-cases Archive1 = refl
 all-cases Archive2 = refl
+all-cases Archive3 = refl

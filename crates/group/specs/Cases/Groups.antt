@@ -1,4 +1,5 @@
--- Computed cases of groups, from the bytes on, worked by hand: settled groups with all numbers, unrounded portions, and each refusal with its building, place and order (2026-04).
+-- Computed cases of groups, from the bytes on, worked by hand, by the rules of each archive version: settled groups with all numbers, ties by both rules (2026-06), unrounded portions,
+-- and each refusal with its building, place and order (2026-04).
 use Rattle.std.specs.Prelude.{Bool, true, ◌≡◌, refl, ℕ, ◌+◌, ltb, ℤ, pos, neg_ℤ, ◌*ℤ◌, length, get_or, drop, replicate, Ok, Err}
 use mathlib.Core.List.{List, [], ◌∷◌, ◌++◌, map, zip_with}
 use Rattle.apportion.specs.Shares.{shares_by}
@@ -7,10 +8,10 @@ use Rattle.sheet.specs.declared.refusal.Refusal.{Refusal}
 use Rattle.sheet.specs.declared.refusal.Refusal.TheVariants.{TooShort, HeaderField, RowField, IdOrder, ZeroDivisor, BufferLength, FieldConflict, NegativeCommonHeat, BadGroup}
 use Rattle.sheet.specs.Refusals.{first_refusal}
 use Rattle.sheet.specs.declared.rule_set.RuleSet.{RuleSet}
-use Rattle.sheet.specs.declared.rule_set.RuleSet.TheVariants.{Archive1, Archive2}
+use Rattle.sheet.specs.declared.rule_set.RuleSet.TheVariants.{Archive1, Archive2, Archive3}
 use Rattle.sheet.specs.Layout.{in_bytes, unit_row, rows, sheet_of}
 use Rattle.sheet.specs.Check.{header_tests, row_tests, field_rules, row_rules, sheet_rules}
-use Rattle.sheet.specs.Cases.Samples.{zeros, put, unit_bytes, joined as joinedRows, sheet_bytes, heated, sheet_a, case_a}
+use Rattle.sheet.specs.Cases.Samples.{zeros, put, unit_bytes, joined as joinedRows, sheet_bytes, heated, sheet_a, case_a, by_ties}
 use Rattle.month.specs.Fraction.{Fraction, ◌over◌, ◌+ᶠ◌, ◌-ᶠ◌, portion, portions}
 use Rattle.month.specs.Weights.{all_metered, metered_sum, has_pool, total_area, unread_weight, unread_weights, pool_weight, reading_sum, read_area, read_surface, area_weight, surface_weight, read_weight, read_weights, units_of_class, litres_of_class1, persons_of_class2, water_weight}
 use Rattle.month.specs.Steps.{unrounded, split_by, in_unit_order, unit_by_unit, hot_water, space_heat, heat_parts, pool_shares, read_shares, heat, common_heat, water_parts, water, common_water}
@@ -33,13 +34,17 @@ by_percent = sheet_bytes 1 3 0 30 20 0 30 0 500000 10000 (zeros 6) (heated 21 0 
 case_d : List ℕ
 case_d = sheet_a 30 units_d
 
--- model 5, M 4,000,000,000, one unit with b 0: all is common heat
-by_meter : List ℕ
-by_meter = sheet_bytes 1 5 0 0 0 0 30 0 4000000000 10000 (zeros 6) (heated 11 0 1000 100 0 ∷ [])
+-- model 5, one unit: heat b, and the rest of M is common heat
+by_meter : (M p b : ℕ) → List ℕ
+by_meter M p b = sheet_bytes 1 5 0 0 0 0 30 0 M 10000 (zeros 6) (heated 11 0 1000 p b ∷ [])
 
 -- model 2, M 1,000, of which H 600 by a meter of its own; p 100 with ten litres, p 300 with four persons
 with_water : List ℕ
 with_water = sheet_bytes 1 2 1 0 0 0 0 0 1000 10000 (600 ∷ zeros 5) (unit_bytes 11 0 1 1000 100 0 0 0 10 5 ∷ unit_bytes 12 0 2 1000 300 0 0 0 0 4 ∷ [])
+
+-- model 3, M 8, of which H 4, z 50, y 50, B = 0: all by 1, 3
+by_quarters : List ℕ
+by_quarters = sheet_bytes 1 3 1 30 50 50 30 0 8 10000 (4 ∷ zeros 5) (unit_bytes 11 0 1 1000 100 0 0 0 1 1 ∷ unit_bytes 12 0 1 1000 300 0 0 0 3 3 ∷ [])
 
 -- Two sheets of price 0 that share 32 bytes. Model 3, M 1,000, z 20: unit 11 with p 99, read; the other with id 5,456,712 (72 + 256 × 67 + 65,536 × 83), status 1, KF 513, p 1.
 -- From byte 80 on these 32 also begin a sheet of version 1, month 1, model 2 (513 = 1 + 256 × 2), n 1, M 500 (the q); its h3 .. h6 and its unit with p 50 come after.
@@ -127,7 +132,8 @@ given (x gives y) = x
 abbrev expected : Case → Reply
 expected (x gives y) = y
 
--- Accepted. P is 2,000 and 1,000 where case A or D and p 400, 600 go together, so two thirds and one third of the difference. At this price 100 Wh are a cent.
+-- Accepted, one of them by versions 1 and 2 alone. P is 2,000 and 1,000 where case A or D and p 400, 600 go together, so two thirds and one third of the difference.
+-- At this price 100 Wh are a cent.
 accepted_cases : RuleSet → List Case
 accepted_cases rules =
     -- Difference 30,000: 20,000 and 10,000. Common heat 220,000 by 1, 1, 2 and 10,000 by 2, 3. Readings 1,020,000 and 510,000, so of the bill of 15,300 they pay 10,200 and 5,100.
@@ -211,9 +217,9 @@ accepted_cases rules =
     ∷ []
     )
     -- Difference −8,000,000,000, past 32 bits: 4,000,000,000 each, all that there is.
-    ∷ call rules by_meter (times 2 (0 long 80)) 0 16 gives numbers (0 ∷ 0 ∷ 0 ∷ 0 ∷ 0 ∷ 0 ∷ 0 ∷ 0 ∷ 0 ∷ 0 ∷ 0 ∷ 0 ∷ 0 ∷ 0 ∷ 0 ∷ 0 ∷ [])
+    ∷ call rules (by_meter 4000000000 100 0) (times 2 (0 long 80)) 0 16 gives numbers (0 ∷ 0 ∷ 0 ∷ 0 ∷ 0 ∷ 0 ∷ 0 ∷ 0 ∷ 0 ∷ 0 ∷ 0 ∷ 0 ∷ 0 ∷ 0 ∷ 0 ∷ 0 ∷ [])
     -- Difference −11,999,999,996, by three equal P 3,999,999,998.67 each: the first two give 3,999,999,999. A bill of 0.04.
-    ∷ call rules by_meter (times 3 (0 long 80)) 4 24
+    ∷ call rules (by_meter 4000000000 100 0) (times 3 (0 long 80)) 4 24
     gives numbers (0 ∷ 1 ∷ 0 ∷ 0 ∷ 0 ∷ 0 ∷ 0 ∷ 0 ∷ 0 ∷ 1 ∷ 0 ∷ 0 ∷ 0 ∷ 0 ∷ 0 ∷ 0 ∷ 0 ∷ 2 ∷ 0 ∷ 0 ∷ 0 ∷ 0 ∷ 0 ∷ 0 ∷ [])
     -- One building with its own M: case A's statement. At the shared reading's limit: common heat 200,000 + 3,999,000,000 by 1, 1, 2, a bill of 40,000,000.
     ∷ group rules (case_a ∷ []) 1000000 24
@@ -230,8 +236,36 @@ accepted_cases rules =
     ∷ 456000 ∷ 1999600000 ∷ 0 ∷ 0 ∷ 4560 ∷ 19996000 ∷ 0 ∷ 0
     ∷ []
     )
-    -- Water stays as it is: heat 400 by 1, 3; H 600 by 1 × 10 × 4 and 1 × 4 × 10; difference 200 by 1, 3. Of twelve cents half a one is due to 50 and to 150 Wh: the earlier gets it.
-    ∷ group rules (with_water ∷ []) 1200 16 gives numbers (100 ∷ 50 ∷ 300 ∷ 0 ∷ 1 ∷ 1 ∷ 3 ∷ 0 ∷ 300 ∷ 150 ∷ 300 ∷ 0 ∷ 3 ∷ 1 ∷ 3 ∷ 0 ∷ [])
+    -- Water stays as it is: heat 400 by 1, 3; H 600 by 1 × 10 × 4 and 1 × 4 × 10; difference 200 by 1, 3. Of twelve cents 0.5 and 1.5 are due to 50 and 150 Wh: a tie within the building.
+    ∷ group rules (with_water ∷ []) 1200 16
+    gives by_ties rules
+    (numbers (100 ∷ 50 ∷ 300 ∷ 0 ∷ 1 ∷ 1 ∷ 3 ∷ 0 ∷ 300 ∷ 150 ∷ 300 ∷ 0 ∷ 3 ∷ 1 ∷ 3 ∷ 0 ∷ []))
+    (numbers (100 ∷ 50 ∷ 300 ∷ 0 ∷ 1 ∷ 0 ∷ 3 ∷ 0 ∷ 300 ∷ 150 ∷ 300 ∷ 0 ∷ 3 ∷ 2 ∷ 3 ∷ 0 ∷ []))
+    -- Ties in a building's steps: 0.5 and 1.5 of heat, water and common water; with the difference 4 there are six Wh of common heat, 1.5 and 4.5.
+    ∷ group rules (by_quarters ∷ []) 12 16
+    gives by_ties rules
+    (numbers (1 ∷ 2 ∷ 1 ∷ 1 ∷ 0 ∷ 0 ∷ 0 ∷ 0 ∷ 1 ∷ 4 ∷ 1 ∷ 1 ∷ 0 ∷ 0 ∷ 0 ∷ 0 ∷ []))
+    (numbers (0 ∷ 1 ∷ 0 ∷ 0 ∷ 0 ∷ 0 ∷ 0 ∷ 0 ∷ 2 ∷ 5 ∷ 2 ∷ 2 ∷ 0 ∷ 0 ∷ 0 ∷ 0 ∷ []))
+    -- A tie in the difference 402 by P 100 and 300: 100.5 and 301.5. The bill is 24.02 and has none.
+    ∷ group rules (by_meter 1000 100 1000 ∷ by_meter 1000 300 1000 ∷ []) 2402 16
+    gives by_ties rules
+    (numbers (1000 ∷ 101 ∷ 0 ∷ 0 ∷ 10 ∷ 1 ∷ 0 ∷ 0 ∷ 1000 ∷ 301 ∷ 0 ∷ 0 ∷ 10 ∷ 3 ∷ 0 ∷ 0 ∷ []))
+    (numbers (1000 ∷ 100 ∷ 0 ∷ 0 ∷ 10 ∷ 1 ∷ 0 ∷ 0 ∷ 1000 ∷ 302 ∷ 0 ∷ 0 ∷ 10 ∷ 3 ∷ 0 ∷ 0 ∷ []))
+    -- In the difference −2 by P 100 and 300: one each, or both from the second building, whose common heat is 2. If it is 1, version 3 refuses with 21.
+    ∷ group rules (by_meter 10 100 0 ∷ by_meter 10 300 8 ∷ []) 18 16
+    gives by_ties rules
+    (numbers (0 ∷ 9 ∷ 0 ∷ 0 ∷ 0 ∷ 0 ∷ 0 ∷ 0 ∷ 8 ∷ 1 ∷ 0 ∷ 0 ∷ 0 ∷ 0 ∷ 0 ∷ 0 ∷ []))
+    (numbers (0 ∷ 10 ∷ 0 ∷ 0 ∷ 0 ∷ 0 ∷ 0 ∷ 0 ∷ 8 ∷ 0 ∷ 0 ∷ 0 ∷ 0 ∷ 0 ∷ 0 ∷ 0 ∷ []))
+    ∷ group rules (by_meter 10 100 0 ∷ by_meter 10 300 9 ∷ []) 18 16
+    gives by_ties rules (numbers (0 ∷ 9 ∷ 0 ∷ 0 ∷ 0 ∷ 0 ∷ 0 ∷ 0 ∷ 9 ∷ 0 ∷ 0 ∷ 0 ∷ 0 ∷ 0 ∷ 0 ∷ 0 ∷ [])) (keeps NegativeCommonHeat 0 0 16)
+    -- In the shared bill: two cents by readings of 50 and 150. The areas, the other way round, play no part.
+    ∷ group rules (by_meter 50 300 50 ∷ by_meter 150 100 150 ∷ []) 200 16
+    gives by_ties rules
+    (numbers (50 ∷ 0 ∷ 0 ∷ 0 ∷ 1 ∷ 0 ∷ 0 ∷ 0 ∷ 150 ∷ 0 ∷ 0 ∷ 0 ∷ 1 ∷ 0 ∷ 0 ∷ 0 ∷ []))
+    (numbers (50 ∷ 0 ∷ 0 ∷ 0 ∷ 0 ∷ 0 ∷ 0 ∷ 0 ∷ 150 ∷ 0 ∷ 0 ∷ 0 ∷ 2 ∷ 0 ∷ 0 ∷ 0 ∷ []))
+    -- Equal weights: the earlier by all rules. One Wh by equal P; readings 51, 50, 50, so of two cents 0.675, 0.662, 0.662 are due.
+    ∷ call rules (by_meter 50 100 50) (times 3 (0 long 80)) 151 24
+    gives numbers (50 ∷ 1 ∷ 0 ∷ 0 ∷ 1 ∷ 0 ∷ 0 ∷ 0 ∷ 50 ∷ 0 ∷ 0 ∷ 0 ∷ 1 ∷ 0 ∷ 0 ∷ 0 ∷ 50 ∷ 0 ∷ 0 ∷ 0 ∷ 0 ∷ 0 ∷ 0 ∷ 0 ∷ [])
     -- The same sheet twice, no difference: case A's statement twice.
     ∷ call rules case_a (times 2 (0 long 144)) 2000000 48
     gives numbers (
@@ -249,7 +283,7 @@ accepted_cases rules =
     ∷ []
 
 accepted_cases_lem : (rules : RuleSet) → map given (accepted_cases rules) ≡ map expected (accepted_cases rules)
-unfolding zip_with accepted_cases sevens call group numbers placed_from by_area by_percent units_d case_d by_meter with_water overlapping unit_bytes joinedRows sheet_bytes in_bytes
+unfolding zip_with accepted_cases sevens call group numbers keeps placed_from by_area by_percent units_d case_d by_meter with_water by_quarters overlapping unit_bytes joinedRows sheet_bytes in_bytes
     shares_by all any first_refusal unit_row rows sheet_of header_tests row_tests field_rules row_rules sheet_rules
     all_metered metered_sum has_pool total_area unread_weight unread_weights pool_weight reading_sum read_area read_surface area_weight surface_weight read_weight read_weights units_of_class litres_of_class1 persons_of_class2 water_weight
     split_by in_unit_order unit_by_unit hot_water space_heat heat_parts pool_shares read_shares heat common_heat water_parts water common_water
@@ -258,6 +292,7 @@ unfolding zip_with accepted_cases sevens call group numbers placed_from by_area 
     group_of bad_group first_in own_stages unlike group_stages group_answer group_after
 accepted_cases_lem Archive1 = refl
 accepted_cases_lem Archive2 = refl
+accepted_cases_lem Archive3 = refl
 
 -- Refused: the refusal, the building, the place raised by 160 × the building, and a list that keeps its sevens.
 refused_cases : RuleSet → List Case
@@ -322,6 +357,7 @@ unfolding zip_with refused_cases sevens call group keeps placed_from by_area by_
     group_of bad_group first_in own_stages unlike group_stages group_answer group_after
 refused_cases_lem Archive1 = refl
 refused_cases_lem Archive2 = refl
+refused_cases_lem Archive3 = refl
 
 -- ---- the unrounded portions, four a unit: heat, common heat, water, common water
 infix 70 ◌equal◌
@@ -396,6 +432,7 @@ unfolding zip_with portion_cases portions_of given_in expected_in given_products
     group_of difference joined difference_shares common_heats building_energies group_energies
 portion_cases_lem Archive1 = refl
 portion_cases_lem Archive2 = refl
+portion_cases_lem Archive3 = refl
 
 -- ---- places: raised by 160 × the building, 0 and 4's byte too
 abbrev raised : (building : ℕ) → Refusal → ℕ

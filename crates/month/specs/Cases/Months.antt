@@ -1,16 +1,16 @@
 -- Computed cases, from the bytes on: A to L (document 01, "Cases for the proofs"), small sheets of each model and water source and refusals 8 to 12, worked by hand, all by the rules
--- of each archive version, and sheets that the limits of model 4 move (2026-01). docs/REGULATION.md takes its figures from this table.
+-- of each archive version, and sheets that the limits of model 4 (2026-01) or the rule for ties (2026-06) move. docs/REGULATION.md takes its figures from this table.
 use Rattle.std.specs.Prelude.{◌≡◌, refl, List, [], ◌∷◌, ◌++◌, map, ℕ, zero, suc, get_or, drop}
-use Rattle.apportion.specs.Shares.{shares_by, shares}
+use Rattle.apportion.specs.Shares.{shares_by}
 use Rattle.sheet.specs.Tests.{all, any}
 use Rattle.sheet.specs.Refusals.{number_of, place_of, first_refusal}
 use Rattle.sheet.specs.declared.rule_set.RuleSet.{RuleSet}
-use Rattle.sheet.specs.declared.rule_set.RuleSet.TheVariants.{Archive1, Archive2}
+use Rattle.sheet.specs.declared.rule_set.RuleSet.TheVariants.{Archive1, Archive2, Archive3}
 use Rattle.sheet.specs.Layout.{in_bytes, unit_row, rows, sheet_of}
 use Rattle.sheet.specs.Check.{header_tests, row_tests, field_rules, row_rules, sheet_rules}
-use Rattle.sheet.specs.Cases.Samples.{unit_bytes, joined, sheet_bytes, heated, sheet_a, units_a, case_a}
+use Rattle.sheet.specs.Cases.Samples.{unit_bytes, joined, sheet_bytes, heated, sheet_a, units_a, case_a, by_limits, by_ties}
 use Rattle.month.specs.Weights.{all_metered, metered_sum, has_pool, total_area, unread_weight, unread_weights, pool_weight, reading_sum, read_area, read_surface, area_weight, surface_weight, read_weight, read_weights, units_of_class, litres_of_class1, persons_of_class2, water_weight}
-use Rattle.month.specs.Steps.{split_by, in_unit_order, unit_by_unit, hot_water, space_heat, heat_parts, pool_shares, read_shares, heat, common_heat, water_parts, water, common_water, energies}
+use Rattle.month.specs.Steps.{shares_under, split_by, in_unit_order, unit_by_unit, hot_water, space_heat, heat_parts, pool_shares, read_shares, heat, common_heat, water_parts, water, common_water, energies}
 use Rattle.month.specs.Month.{hot_water_wh, space_heat_wh, zero_water_divisor, zero_divisor, month_rules, bill_cents, costs, four_and_four, statement_of, Month, month_of, Settled, refused, settled, settle_rules, settled_sheet}
 
 -- ---- sheets in bytes
@@ -123,8 +123,8 @@ cases_a_to_l rules =
     ∷ pool (sheet_a 30 units_e) gives numbers (0 ∷ [])  -- E
     ∷ heats rules (sheet_a 30 units_e) gives numbers (800000 ∷ 0 ∷ [])  -- E settles
     ∷ answer rules (sheet_a 31 units_e) gives refuses 12 0  -- F
-    ∷ numbers (shares 10 (1 ∷ 1 ∷ 1 ∷ [])) gives numbers (4 ∷ 3 ∷ 3 ∷ [])  -- G
-    ∷ numbers (shares 5 (0 ∷ 3 ∷ 1 ∷ [])) gives numbers (0 ∷ 4 ∷ 1 ∷ [])  -- H
+    ∷ numbers (shares_under rules 10 (1 ∷ 1 ∷ 1 ∷ [])) gives numbers (4 ∷ 3 ∷ 3 ∷ [])  -- G
+    ∷ numbers (shares_under rules 5 (0 ∷ 3 ∷ 1 ∷ [])) gives numbers (0 ∷ 4 ∷ 1 ∷ [])  -- H
     ∷ hot_water_of 2 51 (first 1) gives numbers (82 ∷ [])  -- I
     ∷ hot_water_of 3 0 six gives numbers (1150 ∷ [])  -- J
     ∷ bill_of 50 10000 gives numbers (1 ∷ [])  -- K
@@ -134,11 +134,8 @@ cases_a_to_l rules =
 -- others, the same by all rules
 cases_by_hand : RuleSet → List Case
 cases_by_hand rules =
-    -- Model 1, q 1,000 and 3,000. Of the ten cents 2.5 and 7.5 are due: the earlier gets the half.
-    answer rules (sheet 1 0 0 0 0 0 0 1000 10000 (first 0) (unit_bytes 11 0 0 1000 100 0 1000 0 0 0 ∷ unit_bytes 12 0 0 1000 100 0 3000 0 0 0 ∷ []))
-    gives settles 10 (250 ∷ 0 ∷ 0 ∷ 0 ∷ 3 ∷ 0 ∷ 0 ∷ 0 ∷ 750 ∷ 0 ∷ 0 ∷ 0 ∷ 7 ∷ 0 ∷ 0 ∷ 0 ∷ [])
-    -- The same q, whatever p and KF.
-    ∷ heats rules (sheet 1 0 0 0 0 0 0 1000 10000 (first 0) (unit_bytes 11 0 0 1000 300 0 1000 0 0 0 ∷ unit_bytes 12 0 0 500 100 0 3000 0 0 0 ∷ [])) gives numbers (250 ∷ 750 ∷ [])
+    -- Model 1 goes by q alone, whatever p and KF.
+    heats rules (sheet 1 0 0 0 0 0 0 1000 10000 (first 0) (unit_bytes 11 0 0 1000 300 0 1000 0 0 0 ∷ unit_bytes 12 0 0 500 100 0 3000 0 0 0 ∷ [])) gives numbers (250 ∷ 750 ∷ [])
     -- Model 2 with both water classes: n1 2, n2 1, L 40, N2 4, so 480 Wh by 240, 80, 160; common water 120 Wh by 1, 3, 4; the fourth unit has no water.
     ∷ answer rules (water_sheet 20 (unit_bytes 11 0 1 1000 50 0 0 0 30 1 ∷ unit_bytes 12 0 1 1000 50 0 0 0 10 3 ∷ unit_bytes 13 0 2 1000 100 0 0 0 0 4 ∷ unit_bytes 14 0 0 1000 200 0 0 0 0 0 ∷ []))
     gives settles 10 (
@@ -190,9 +187,6 @@ cases_by_hand rules =
     ∷ answer rules (sheet 2 1 0 0 50 0 0 1 10000 (first 1) (unit_bytes 11 0 1 1000 100 0 0 0 5 1 ∷ [])) gives settles 0 (0 ∷ 0 ∷ 1 ∷ 0 ∷ 0 ∷ 0 ∷ 0 ∷ 0 ∷ [])
     -- Model 3, M = 0: nothing by energies of sum 0.
     ∷ answer rules (sheet 3 0 30 20 0 30 0 0 10000 (first 0) (heated 11 0 1000 500 100 ∷ [])) gives settles 0 (0 ∷ 0 ∷ 0 ∷ 0 ∷ 0 ∷ 0 ∷ 0 ∷ 0 ∷ [])
-    -- Model 4, v 50, z 10: r 80,000 each, KF 1,000 and 500. H by t 50 and ten litres is 810, by persons 2 and 1.
-    ∷ answer rules (sheet 4 2 50 10 0 30 50 1810 100000 (first 10) (unit_bytes 11 0 2 1000 100 10 0 30 0 2 ∷ unit_bytes 12 0 2 500 300 30 0 10 0 1 ∷ []))
-    gives settles 181 (600 ∷ 25 ∷ 540 ∷ 0 ∷ 60 ∷ 3 ∷ 54 ∷ 0 ∷ 300 ∷ 75 ∷ 270 ∷ 0 ∷ 30 ∷ 7 ∷ 27 ∷ 0 ∷ [])
     -- Model 4, s 100, 200, 300, unit 11 without a device: three quarters of 800,000 by its p, whatever s. S is 500, B 900: r 15.9 and 29.1 millions.
     ∷ heats rules (sheet 4 0 30 20 0 30 0 1000000 10000 (first 0) (unit_bytes 11 1 0 1000 500 100 0 0 0 0 ∷ unit_bytes 12 0 0 1000 500 200 0 300 0 0 ∷ unit_bytes 13 0 0 1000 1000 300 0 600 0 0 ∷ []))
     gives numbers (600000 ∷ 70667 ∷ 129333 ∷ [])
@@ -273,33 +267,67 @@ one_unread : List ℕ
 one_unread = sheet 4 0 10 0 0 30 0 3200 10000 (first 0) (unit_bytes 11 1 0 1000 100 40 0 0 0 0 ∷ unit_bytes 12 0 0 1000 100 10 0 0 0 0 ∷ unit_bytes 13 0 0 1000 100 20 0 20 0 0 ∷ unit_bytes 14 0 0 1000 100 10 0 20 0 0 ∷ [])
 
 -- by the limits of model 4 (2026-01) and without them
-cases_by_rules : List Case
-cases_by_rules =
+cases_by_limits : RuleSet → List Case
+cases_by_limits rules =
     -- S 200, B 1,000: r 15.5, 1.5, 3 millions; limited 15, 2, 4.
-    heats Archive1 (risers_c 50 1000) gives numbers (620000 ∷ 60000 ∷ 120000 ∷ [])
-    ∷ heats Archive2 (risers_c 50 1000) gives numbers (571429 ∷ 76190 ∷ 152381 ∷ [])
+    heats rules (risers_c 50 1000) gives numbers (by_limits rules (620000 ∷ 60000 ∷ 120000 ∷ []) (571429 ∷ 76190 ∷ 152381 ∷ []))
     -- The first s 0, S 150: r 10.5, 1.5, 3 millions; the first keeps it, the others are raised to 2 and 4.
-    ∷ heats Archive1 (risers_c 0 1000) gives numbers (560000 ∷ 80000 ∷ 160000 ∷ [])
-    ∷ heats Archive2 (risers_c 0 1000) gives numbers (509091 ∷ 96970 ∷ 193939 ∷ [])
+    ∷ heats rules (risers_c 0 1000) gives numbers (by_limits rules (560000 ∷ 80000 ∷ 160000 ∷ []) (509091 ∷ 96970 ∷ 193939 ∷ []))
     -- The first s 1, S 151: r 10.6, 1.5, 3 millions; limited 0.3, 2, 4.
-    ∷ heats Archive1 (risers_c 1 1000) gives numbers (561590 ∷ 79470 ∷ 158940 ∷ [])
-    ∷ heats Archive2 (risers_c 1 1000) gives numbers (38095 ∷ 253968 ∷ 507937 ∷ [])
+    ∷ heats rules (risers_c 1 1000) gives numbers (by_limits rules (561590 ∷ 79470 ∷ 158940 ∷ []) (38095 ∷ 253968 ∷ 507937 ∷ []))
     -- v 0: r 20, 0, 0 millions; limited 15, 2, 4.
-    ∷ heats Archive1 (risers 0 50 1000) gives numbers (800000 ∷ 0 ∷ 0 ∷ [])
-    ∷ heats Archive2 (risers 0 50 1000) gives numbers (571429 ∷ 76190 ∷ 152381 ∷ [])
+    ∷ heats rules (risers 0 50 1000) gives numbers (by_limits rules (800000 ∷ 0 ∷ 0 ∷ []) (571429 ∷ 76190 ∷ 152381 ∷ []))
     -- KF 500 of the first, after the limits: 7.75, 1.5, 3 and 7.5, 2, 4.
-    ∷ heats Archive1 (risers_c 50 500) gives numbers (506123 ∷ 97959 ∷ 195918 ∷ [])
-    ∷ heats Archive2 (risers_c 50 500) gives numbers (444444 ∷ 118519 ∷ 237037 ∷ [])
+    ∷ heats rules (risers_c 50 500) gives numbers (by_limits rules (506123 ∷ 97959 ∷ 195918 ∷ []) (444444 ∷ 118519 ∷ 237037 ∷ []))
     -- S 40, B 40: r 4,000, 80,000, 76,000, the first raised to 16,000.
-    ∷ heats Archive1 one_unread gives numbers (2400 ∷ 20 ∷ 400 ∷ 380 ∷ [])
-    ∷ heats Archive2 one_unread gives numbers (2400 ∷ 74 ∷ 372 ∷ 354 ∷ [])
+    ∷ heats rules one_unread gives numbers (by_limits rules (2400 ∷ 20 ∷ 400 ∷ 380 ∷ []) (2400 ∷ 74 ∷ 372 ∷ 354 ∷ []))
+    ∷ []
+
+-- model 2, M Wh by p
+by_areas : (M : ℕ) → (p₁ p₂ : ℕ) → List ℕ
+by_areas M p₁ p₂ = sheet 2 0 0 0 0 0 0 M 10000 (first 0) (heated 11 0 1000 p₁ 0 ∷ heated 12 0 1000 p₂ 0 ∷ [])
+
+-- ties to the earlier item and to the larger weight (2026-06)
+cases_by_ties : RuleSet → List Case
+cases_by_ties rules =
+    -- Model 2, M 2, p 1 and 3: 0.5 and 1.5 are due.
+    answer rules (by_areas 2 1 3)
+    gives by_ties rules (settles 0 (1 ∷ 0 ∷ 0 ∷ 0 ∷ 0 ∷ 0 ∷ 0 ∷ 0 ∷ 1 ∷ 0 ∷ 0 ∷ 0 ∷ 0 ∷ 0 ∷ 0 ∷ 0 ∷ [])) (settles 0 (0 ∷ 0 ∷ 0 ∷ 0 ∷ 0 ∷ 0 ∷ 0 ∷ 0 ∷ 2 ∷ 0 ∷ 0 ∷ 0 ∷ 0 ∷ 0 ∷ 0 ∷ 0 ∷ []))
+    -- The larger is the earlier; equal remainders and equal weights: the earlier.
+    ∷ answer rules (by_areas 2 3 1) gives settles 0 (2 ∷ 0 ∷ 0 ∷ 0 ∷ 0 ∷ 0 ∷ 0 ∷ 0 ∷ 0 ∷ 0 ∷ 0 ∷ 0 ∷ 0 ∷ 0 ∷ 0 ∷ 0 ∷ [])
+    ∷ answer rules (by_areas 3 2 2) gives settles 0 (2 ∷ 0 ∷ 0 ∷ 0 ∷ 0 ∷ 0 ∷ 0 ∷ 0 ∷ 1 ∷ 0 ∷ 0 ∷ 0 ∷ 0 ∷ 0 ∷ 0 ∷ 0 ∷ [])
+    -- Model 1, M 8, q 1, 7, 4: 0.67, 4.67, 2.67 are due, two left over. The areas, the first the largest, play no part.
+    ∷ answer rules (sheet 1 0 0 0 0 0 0 8 10000 (first 0) (unit_bytes 11 0 0 1000 300 0 1 0 0 0 ∷ unit_bytes 12 0 0 1000 100 0 7 0 0 0 ∷ unit_bytes 13 0 0 1000 100 0 4 0 0 0 ∷ []))
+    gives by_ties rules
+    (settles 0 (1 ∷ 0 ∷ 0 ∷ 0 ∷ 0 ∷ 0 ∷ 0 ∷ 0 ∷ 5 ∷ 0 ∷ 0 ∷ 0 ∷ 0 ∷ 0 ∷ 0 ∷ 0 ∷ 2 ∷ 0 ∷ 0 ∷ 0 ∷ 0 ∷ 0 ∷ 0 ∷ 0 ∷ []))
+    (settles 0 (0 ∷ 0 ∷ 0 ∷ 0 ∷ 0 ∷ 0 ∷ 0 ∷ 0 ∷ 5 ∷ 0 ∷ 0 ∷ 0 ∷ 0 ∷ 0 ∷ 0 ∷ 0 ∷ 3 ∷ 0 ∷ 0 ∷ 0 ∷ 0 ∷ 0 ∷ 0 ∷ 0 ∷ []))
+    -- A bill. Model 1, q 1,000 and 3,000: of the ten cents 2.5 and 7.5 are due.
+    ∷ answer rules (sheet 1 0 0 0 0 0 0 1000 10000 (first 0) (unit_bytes 11 0 0 1000 100 0 1000 0 0 0 ∷ unit_bytes 12 0 0 1000 100 0 3000 0 0 0 ∷ []))
+    gives by_ties rules
+    (settles 10 (250 ∷ 0 ∷ 0 ∷ 0 ∷ 3 ∷ 0 ∷ 0 ∷ 0 ∷ 750 ∷ 0 ∷ 0 ∷ 0 ∷ 7 ∷ 0 ∷ 0 ∷ 0 ∷ []))
+    (settles 10 (250 ∷ 0 ∷ 0 ∷ 0 ∷ 2 ∷ 0 ∷ 0 ∷ 0 ∷ 750 ∷ 0 ∷ 0 ∷ 0 ∷ 8 ∷ 0 ∷ 0 ∷ 0 ∷ []))
+    -- Model 4, v 50, z 10: r 80,000 each, KF 1,000 and 500. H by t 50 and ten litres is 810, by persons 2 and 1. Of the cents 2.5 are due for 25 Wh, 7.5 for 75.
+    ∷ answer rules (sheet 4 2 50 10 0 30 50 1810 100000 (first 10) (unit_bytes 11 0 2 1000 100 10 0 30 0 2 ∷ unit_bytes 12 0 2 500 300 30 0 10 0 1 ∷ []))
+    gives by_ties rules
+    (settles 181 (600 ∷ 25 ∷ 540 ∷ 0 ∷ 60 ∷ 3 ∷ 54 ∷ 0 ∷ 300 ∷ 75 ∷ 270 ∷ 0 ∷ 30 ∷ 7 ∷ 27 ∷ 0 ∷ []))
+    (settles 181 (600 ∷ 25 ∷ 540 ∷ 0 ∷ 60 ∷ 2 ∷ 54 ∷ 0 ∷ 300 ∷ 75 ∷ 270 ∷ 0 ∷ 30 ∷ 8 ∷ 27 ∷ 0 ∷ []))
+    -- Model 3, a unit with a fault, p 100, before the read one, p 300: two Wh by 1 and the rest's 3.
+    ∷ answer rules (sheet 3 0 30 0 0 30 0 2 10000 (first 0) (heated 11 2 1000 100 0 ∷ heated 12 0 1000 300 5 ∷ []))
+    gives by_ties rules
+    (settles 0 (1 ∷ 0 ∷ 0 ∷ 0 ∷ 0 ∷ 0 ∷ 0 ∷ 0 ∷ 1 ∷ 0 ∷ 0 ∷ 0 ∷ 0 ∷ 0 ∷ 0 ∷ 0 ∷ []))
+    (settles 0 (0 ∷ 0 ∷ 0 ∷ 0 ∷ 0 ∷ 0 ∷ 0 ∷ 0 ∷ 2 ∷ 0 ∷ 0 ∷ 0 ∷ 0 ∷ 0 ∷ 0 ∷ 0 ∷ []))
+    -- Model 3, B = 0, z 50, y 50, H 4 of M 8: two Wh each by p × KF, by p, by litres and by persons, 1 and 3; then one cent by the energies.
+    ∷ answer rules (sheet 3 1 30 50 50 30 0 8 100000 (first 4) (unit_bytes 11 0 1 1000 100 0 0 0 1 1 ∷ unit_bytes 12 0 1 1000 300 0 0 0 3 3 ∷ []))
+    gives by_ties rules
+    (settles 1 (1 ∷ 1 ∷ 1 ∷ 1 ∷ 1 ∷ 0 ∷ 0 ∷ 0 ∷ 1 ∷ 1 ∷ 1 ∷ 1 ∷ 0 ∷ 0 ∷ 0 ∷ 0 ∷ []))
+    (settles 1 (0 ∷ 0 ∷ 0 ∷ 0 ∷ 0 ∷ 0 ∷ 0 ∷ 0 ∷ 2 ∷ 2 ∷ 2 ∷ 2 ∷ 1 ∷ 0 ∷ 0 ∷ 0 ∷ []))
     ∷ []
 
 pub cases : RuleSet → List Case
-cases rules = cases_a_to_l rules ++ (cases_by_hand rules ++ cases_by_rules)
+cases rules = cases_a_to_l rules ++ (cases_by_hand rules ++ (cases_by_limits rules ++ cases_by_ties rules))
 
 pub all-cases : (rules : RuleSet) → map given (cases rules) ≡ map expected (cases rules)
-unfolding cases cases_a_to_l cases_by_hand cases_by_rules risers risers_c one_unread
+unfolding cases cases_a_to_l cases_by_hand cases_by_limits by_areas cases_by_ties risers risers_c one_unread
     unit_bytes joined sheet_bytes in_bytes units_d units_e last_the_rest partly_metered water_sheet every_eighth whole answer month_a heats pool hot_water_of bill_of
     shares_by all any first_refusal unit_row rows sheet_of header_tests row_tests field_rules row_rules sheet_rules
     all_metered metered_sum has_pool total_area unread_weight unread_weights pool_weight reading_sum read_area read_surface area_weight surface_weight read_weight read_weights units_of_class litres_of_class1 persons_of_class2 water_weight
@@ -307,3 +335,4 @@ unfolding cases cases_a_to_l cases_by_hand cases_by_rules risers risers_c one_un
     hot_water_wh space_heat_wh zero_water_divisor zero_divisor month_rules bill_cents costs four_and_four statement_of month_of settle_rules settled_sheet
 all-cases Archive1 = refl
 all-cases Archive2 = refl
+all-cases Archive3 = refl

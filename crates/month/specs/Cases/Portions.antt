@@ -4,7 +4,7 @@ use Rattle.std.proofs.Common.{arith}
 use Rattle.apportion.specs.Shares.{shares_by}
 use Rattle.sheet.specs.Tests.{all}
 use Rattle.sheet.specs.declared.rule_set.RuleSet.{RuleSet}
-use Rattle.sheet.specs.declared.rule_set.RuleSet.TheVariants.{Archive1, Archive2}
+use Rattle.sheet.specs.declared.rule_set.RuleSet.TheVariants.{Archive1, Archive2, Archive3}
 use Rattle.sheet.specs.Layout.{in_bytes, unit_row, rows, sheet_of}
 use Rattle.sheet.specs.Cases.Samples.{zeros, unit_bytes, joined, sheet_bytes, heated, sheet_a, units_a}
 use Rattle.month.specs.Fraction.{Fraction, Near, ◌over◌, ◌+ᶠ◌, ◌-ᶠ◌, sumᶠ, portion, portions}
@@ -138,6 +138,7 @@ unfolding cases given expected from_place portions_of cents_of case_b case_c uni
     bill_cents energy_portion bill_part
 all-cases Archive1 = refl
 all-cases Archive2 = refl
+all-cases Archive3 = refl
 
 -- ---- at most 1 away from 2.5: 2 and 3, not 1 and 4
 near_below : Near 2 (5 over 2) 1

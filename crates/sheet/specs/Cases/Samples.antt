@@ -1,5 +1,7 @@
--- Sheets written field by field, and changed byte by byte, for computed cases.
+-- Sheets written field by field, and changed byte by byte, for computed cases; and what they give by the rules of each archive version.
 use Rattle.std.specs.Prelude.{List, [], ◌∷◌, ◌++◌, ℕ, length, set, replicate}
+use Rattle.sheet.specs.declared.rule_set.RuleSet.{RuleSet}
+use Rattle.sheet.specs.declared.rule_set.RuleSet.TheVariants.{Archive1, Archive2, Archive3}
 use Rattle.sheet.specs.Layout.{bytes16, bytes32, in_bytes}
 
 abbrev pub zeros : ℕ → List ℕ
@@ -41,3 +43,15 @@ units_a b₁ b₂ b₃ = heated 11 0 1000 500 b₁ ∷ heated 12 0 1000 500 b₂
 -- case A
 abbrev pub case_a : List ℕ
 case_a = sheet_a 30 (units_a 100 300 600)
+
+-- without the limits of model 4 by version 1, with them by the later ones (2026-01)
+abbrev pub by_limits : {A : Type 0} → RuleSet → (without limited : A) → A
+by_limits Archive1 without limited = without
+by_limits Archive2 without limited = limited
+by_limits Archive3 without limited = limited
+
+-- ties to the earlier item by versions 1 and 2, to the larger weight by version 3 (2026-06)
+abbrev pub by_ties : {A : Type 0} → RuleSet → (earlier larger : A) → A
+by_ties Archive1 earlier larger = earlier
+by_ties Archive2 earlier larger = earlier
+by_ties Archive3 earlier larger = larger

@@ -61,7 +61,7 @@ abbrev pub expected : Line → Answer
 expected (c gets a) = a
 
 -- The opening sheet passes 1 to 7 and doesn't settle.
--- Of M 1,000 the units get 250 and 750, and of ten cents 2.5 and 7.5: the earlier gets the half. Of M 50 they get 13 and 37, and the second the cent.
+-- Of M 1,000 the units get 250 and 750, and of ten cents 2.5 and 7.5 are due: the larger gets the half. Of M 50 they get 12 and 38, of 12.5 and 37.5, and the second the cent.
 -- By risers they get 3,000 and 1,200 of 4,200 Wh, 30 and 12 of 42 cents.
 unfoldable pub run : List Line
 run =
@@ -69,12 +69,12 @@ run =
     ∷ replace (by_area 1 1000) gets refuses 17 0
     ∷ post (by_area 1 1000) gets accepts
     ∷ post (by_area 1 2000) gets refuses 17 0
-    ∷ year 0 gets gives 1 (250 ∷ 0 ∷ 0 ∷ 0 ∷ 3 ∷ 0 ∷ 0 ∷ 0 ∷ [])
+    ∷ year 0 gets gives 1 (250 ∷ 0 ∷ 0 ∷ 0 ∷ 2 ∷ 0 ∷ 0 ∷ 0 ∷ [])
     ∷ post (by_area 12 50) gets accepts
     ∷ replace (by_area 1 2000) gets accepts
-    ∷ year 1 gets gives 2 (1537 ∷ 0 ∷ 0 ∷ 0 ∷ 16 ∷ 0 ∷ 0 ∷ 0 ∷ [])
+    ∷ year 1 gets gives 2 (1538 ∷ 0 ∷ 0 ∷ 0 ∷ 16 ∷ 0 ∷ 0 ∷ 0 ∷ [])
     ∷ post (by_risers 3 4200) gets accepts
-    ∷ year 0 gets gives 3 (3513 ∷ 0 ∷ 0 ∷ 0 ∷ 35 ∷ 0 ∷ 0 ∷ 0 ∷ [])
+    ∷ year 0 gets gives 3 (3512 ∷ 0 ∷ 0 ∷ 0 ∷ 35 ∷ 0 ∷ 0 ∷ 0 ∷ [])
     ∷ withdraw 3 gets accepts
     ∷ post [] gets refuses 1 0
     ∷ post (by_area 13 1000) gets refuses 4 6
@@ -88,10 +88,10 @@ run =
     ∷ withdraw 1 gets refuses 17 0
     ∷ withdraw 0 gets refuses 17 0
     ∷ withdraw 13 gets refuses 17 0
-    ∷ year 0 gets gives 1 (13 ∷ 0 ∷ 0 ∷ 0 ∷ 0 ∷ 0 ∷ 0 ∷ 0 ∷ [])
+    ∷ year 0 gets gives 1 (12 ∷ 0 ∷ 0 ∷ 0 ∷ 0 ∷ 0 ∷ 0 ∷ 0 ∷ [])
     ∷ post (by_area 1 1000) gets accepts
     ∷ year 2 gets refuses 18 0
-    ∷ year 1 gets gives 2 (787 ∷ 0 ∷ 0 ∷ 0 ∷ 8 ∷ 0 ∷ 0 ∷ 0 ∷ [])
+    ∷ year 1 gets gives 2 (788 ∷ 0 ∷ 0 ∷ 0 ∷ 9 ∷ 0 ∷ 0 ∷ 0 ∷ [])
     ∷ []
 
 pub run-right : map answer_of (plain_replies (opened_plain (overcharged 6)) (map call_of run)) ≡ map expected run

@@ -13,4 +13,4 @@ pub returns : goal.returns
 returns c =
     let a = c.args in
     let l : length c.share.new.out ≡ length a.weights.now = search rules in
-    put_whole (column_place a.column) _ (all_shares _ a.weights.now _ (search rules) c.share.ensures ∙ ap (λ (t : ℕ). shares_under newest t a.weights.now) c.from.ensures) _ _ c.put_column.ensures l
+    put_whole (column_place a.column) _ (all_shares newest _ a.weights.now _ (search rules) c.share.ensures ∙ ap (λ (t : ℕ). shares_under newest t a.weights.now) c.from.ensures) _ _ c.put_column.ensures l

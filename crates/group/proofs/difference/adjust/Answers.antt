@@ -5,7 +5,7 @@ use lib.IntN.{ℤ}
 use Rattle.month.specs.Steps.{whole_wh}
 use Rattle.group.specs.Group.{adjusted}
 use Rattle.group.proofs.Lists.{same_z}
-use Rattle.group.proofs.Replacing.{none-replaced, one-replaced, all-replaced}
+use Rattle.apportion.proofs.Replacing.{none-replaced, one-replaced, all-replaced}
 use Rattle.group.proofs.difference.adjust.Goals as goal
 
 pub loop-i-init : goal.loop-i-init

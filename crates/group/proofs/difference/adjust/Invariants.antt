@@ -1,7 +1,7 @@
 -- Invariant: the figures passed are adjusted, the others as they were.
 use Rattle.month.specs.Steps.{whole_wh}
 use Rattle.group.specs.Group.{adjusted}
-use Rattle.group.proofs.Replacing.{Replaced}
+use Rattle.apportion.proofs.Replacing.{Replaced}
 use Rattle.group.proofs.difference.adjust.Given as goal
 
 abbrev pub invariant-loop-i : goal.invariant-loop-i

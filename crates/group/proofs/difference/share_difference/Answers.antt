@@ -6,12 +6,14 @@ use native.Mathlib.Nat.{div-add-mod', div-mul-le_self, mod-lt, mul-le-mul_left}
 use lib.ListN.{length, get_or}
 use Rattle.std.specs.List as std
 use Rattle.std.proofs.Common.{rules}
-use Rattle.apportion.specs.Shares.{sum, shares, added, remainder}
-use Rattle.apportion.proofs.Turns.{turned, turns, remainder_by}
+use Rattle.apportion.specs.declared.tie_rule.TieRule.{TieRule}
+use Rattle.apportion.specs.Shares.{sum, key_by, shares, added}
+use Rattle.apportion.proofs.Turns.{turned, turns, key_by_remainder}
+use Rattle.sheet.specs.RuleSets.{ties, newest}
 use Rattle.month.proofs.Nearness.{item_le}
 use Rattle.apportion.proofs.Sums.{sum_is}
 use Rattle.settlement.proofs.Dividing.{all_shares}
-use Rattle.group.proofs.Replacing.{none-replaced, one-replaced, all-replaced}
+use Rattle.apportion.proofs.Replacing.{none-replaced, one-replaced, all-replaced}
 use Rattle.group.proofs.difference.share_difference.Invariants.{turned_with}
 use Rattle.group.proofs.difference.share_difference.Goals.{After-iter, After-sum-whole, After-share}
 use Rattle.group.proofs.difference.share_difference.Goals as goal
@@ -22,8 +24,9 @@ side_by_side turns [] parts e = refl
 side_by_side turns (x ∷ xs) [] e = absurd (omega arith)
 side_by_side turns (x ∷ xs) (y ∷ ys) e = ap (λ (r : List ℕ). turned_with turns x y ∷ r) (side_by_side turns xs ys (omega arith))
 
-divided : (size whole : ℕ) (ws parts out : List ℕ) → whole ≡ sum ws → 0 < sum ws → parts ≡ shares (size % whole) ws → out ≡ added (turned (size / whole) ws) parts → out ≡ shares size ws
-divided size whole ws parts out e h p q = rw (q, p, e) (sym (turns remainder remainder_by (size / sum ws) (size % sum ws) ws h) ∙ ap (λ (t : ℕ). shares t ws) (div-add-mod' size (sum ws)))
+divided : (rule : TieRule) (size whole : ℕ) (ws parts out : List ℕ) → whole ≡ sum ws → 0 < sum ws → parts ≡ shares rule (size % whole) ws → out ≡ added (turned (size / whole) ws) parts → out ≡ shares rule size ws
+divided rule size whole ws parts out e h p q =
+    rw (q, p, e) (sym (turns (key_by rule) (key_by_remainder rule) (size / sum ws) (size % sum ws) ws h) ∙ ap (λ (t : ℕ). shares rule t ws) (div-add-mod' size (sum ws)))
 
 -- an area's turns are within the size
 turns-le : (size whole : ℕ) (areas : List ℕ) (x i : ℕ) → whole ≡ sum areas → size ≤ 48000000000 → x ≡ get_or areas i 0 → size / whole * x ≤ 48000000000
@@ -74,5 +77,5 @@ returns c =
     let a = c.args in
     let whole = c.sum-whole.result in
     let many : length a.areas.now ≡ length c.share.new.out = search rules in
-    divided a.size whole a.areas.now c.share.new.out l.areas (whole_is (goal.at.returns c).After-sum-whole) (omega arith) (all_shares _ a.areas.now _ (search rules) c.share.ensures)
+    divided (ties newest) a.size whole a.areas.now c.share.new.out l.areas (whole_is (goal.at.returns c).After-sum-whole) (omega arith) (all_shares newest _ a.areas.now _ (search rules) c.share.ensures)
     (all-replaced _ _ _ l.i l.areas (omega arith) (omega arith) many l.invariant ∙ side_by_side (a.size / whole) a.areas.now c.share.new.out many)

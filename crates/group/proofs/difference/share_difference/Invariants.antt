@@ -1,6 +1,6 @@
 -- Invariant: the areas passed are turned and have their part of the rest, the others are as they were.
 use Prim.Native.Nat.{ℕ, ◌+◌, ◌*◌}
-use Rattle.group.proofs.Replacing.{Replaced}
+use Rattle.apportion.proofs.Replacing.{Replaced}
 use Rattle.group.proofs.difference.share_difference.Given as goal
 
 abbrev pub turned_with : ℕ → ℕ → ℕ → ℕ

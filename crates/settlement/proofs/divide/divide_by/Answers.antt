@@ -5,7 +5,7 @@ use native.Mathlib.Omega.{arith}
 use lib.ListN.{length, drop}
 use Rattle.weights.specs.Inner.Months.{sheet_of_month}
 use Rattle.weights.proofs.Ready.{month_accepted}
-use Rattle.apportion.specs.Shares.{shares}
+use Rattle.month.specs.Steps.{shares_under}
 use Rattle.weights.specs.Inner.By.{weights_by}
 use Rattle.settlement.proofs.Dividing.{weights_fit, zeros_shared, front_shares}
 use Rattle.settlement.proofs.divide.divide_by.Goals as goal
@@ -25,4 +25,4 @@ pub returns : goal.returns
 returns c =
     let m = c.args.month.now in
     let g = c.gather-m in
-    front_shares c.args.total _ (weights_by m.basis.rules c.args.by (sheet_of_month m)) c.share.new.out _ refl c.requires.1.1 (c.share.ensures ∙ ap (λ (ws : List ℕ). shares c.args.total ws ++ drop (length ws) c.args.out.now) g.ensures.weights)
+    front_shares m.basis.rules c.args.total _ (weights_by m.basis.rules c.args.by (sheet_of_month m)) c.share.new.out _ refl c.requires.1.1 (c.share.ensures ∙ ap (λ (ws : List ℕ). shares_under m.basis.rules c.args.total ws ++ drop (length ws) c.args.out.now) g.ensures.weights)

@@ -1,5 +1,6 @@
 use mathlib.Core.Path.{sym}
 use native.Mathlib.Omega.{arith}
+use Rattle.sheet.specs.RuleSets.{ties}
 use Rattle.month.specs.Steps.{split_by}
 use Rattle.apportion.proofs.Halves.{both, half_up_le, first_part, second-part}
 use Rattle.settlement.proofs.divide.split.Goals as goal
@@ -15,4 +16,4 @@ overflow_sub-result c = half_up_le c.args.total c.args.percent (omega arith)
 
 pub returns : goal.returns
 unfolding split_by
-returns c = let a = c.args in record { units = λ rules. sym (first_part a.total a.percent (omega arith)); common = λ rules. sym (second-part a.total a.percent (omega arith)) }
+returns c = let a = c.args in record { units = λ rules. sym (first_part a.total a.percent (omega arith) (ties rules)); common = λ rules. sym (second-part a.total a.percent (omega arith) (ties rules)) }

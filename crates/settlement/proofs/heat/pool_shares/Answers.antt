@@ -6,9 +6,8 @@ use lib.ListN.{length, drop, length-set}
 use lib.Seq.{length-take-le}
 use Rattle.weights.specs.Inner.Months.{sheet_of_month}
 use Rattle.weights.proofs.Ready.{month_accepted}
-use Rattle.apportion.specs.Shares.{shares}
 use Rattle.month.specs.Weights.{unread_weights, pool_weight}
-use Rattle.month.specs.Steps.{pool_shares}
+use Rattle.month.specs.Steps.{shares_under, pool_shares}
 use Rattle.month.proofs.Accepted.{pool-positive}
 use Rattle.month.proofs.Bounds.{weight_bounds}
 use Rattle.month.proofs.DivisionBounds.{units_heat_le}
@@ -68,5 +67,5 @@ returns-clause-shares c =
     let ws = unread_weights s ++ pool_weight s ∷ [] in
     let l = length-set g.new.out g.result (10000 * m.basis.totals.area - m.basis.totals.unread) in
     let many : length ws ≡ g.result + 1 = ap length (sym w.weights) ∙ length-take-le (g.result + 1) _ (omega (arith, w.few, g.array_long, l)) in
-    front_shares c.args.total (g.result + 1) ws c.share.new.out _ many (λ z. absurd (omega (arith, pool-positive s (month_accepted m)))) (c.share.ensures ∙ ap (λ (l : List ℕ). shares c.args.total l ++ drop (length l) c.args.out.now) w.weights)
-    ∙ ap (λ (t : ℕ). shares t ws) c.requires.asked.total-is
+    front_shares m.basis.rules c.args.total (g.result + 1) ws c.share.new.out _ many (λ z. absurd (omega (arith, pool-positive s (month_accepted m)))) (c.share.ensures ∙ ap (λ (l : List ℕ). shares_under m.basis.rules c.args.total l ++ drop (length l) c.args.out.now) w.weights)
+    ∙ ap (λ (t : ℕ). shares_under m.basis.rules t ws) c.requires.asked.total-is

@@ -91,6 +91,6 @@ returns c =
     let w = c.water_shares.ensures in
     let put = c.put_energies in
     let room : length put.new.statement ≡ 8 * (sheet_of_month m).unit_count = omega (arith, put.auto, p.1) in
-    c.write_costs.ensures m.basis.rules
+    c.write_costs.ensures
     ∙ ap (λ (k : ℕ). with_costs m.basis.rules k c.args.bill put.new.statement) c.unit_count-n.ensures.0
     ∙ costed m p.0 _ (energies_are m p.0 _ c.unit_count-n.ensures.0 _ _ _ _ _ _ room put.ensures h.units_after h.common_after w.units_after w.common_after)

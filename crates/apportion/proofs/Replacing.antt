@@ -1,18 +1,12 @@
 -- A list whose items are replaced from the front, each by a number made of it and of the item beside it in another list. Assumes nothing.
 use mathlib.Core.Path.{◌≡◌, refl, sym, ap, ◌∙◌}
-use mathlib.Core.List.{List, [], ◌∷◌, zip_with}
-use Prim.Native.Nat.{ℕ, suc, ◌+◌, ◌≤◌, ◌<◌}
+use mathlib.Core.List.{List, zip_with}
+use Prim.Native.Nat.{ℕ, ◌+◌, ◌≤◌, ◌<◌}
 use native.Mathlib.Omega.{arith}
 use borrow.Author.Count.{below_none, below_more}
 use lib.ListN.{length, get_or, set}
 use lib.Seq.{get_or-set_same, get_or-set_other, ext_get_or}
-use Rattle.group.proofs.Lists.{zip_at}
-
-zip_length : (f : ℕ → ℕ → ℕ) (xs ys : List ℕ) → length xs ≡ length ys → length (zip_with f xs ys) ≡ length xs
-unfolding zip_with
-zip_length f [] ys e = refl
-zip_length f (x ∷ xs) [] e = absurd (omega arith)
-zip_length f (x ∷ xs) (y ∷ ys) e = ap suc (zip_length f xs ys (omega arith))
+use Rattle.apportion.proofs.Zips.{zip_length, zip_at}
 
 -- i items are replaced, the others are those of the start
 pub record Replaced (f : ℕ → ℕ → ℕ) (start ys : List ℕ) (i : ℕ) (xs : List ℕ) : Type 0 where
@@ -32,4 +26,4 @@ module _ (f : ℕ → ℕ → ℕ) (start ys : List ℕ) where
       }
 
   pub all-replaced : (i : ℕ) (xs : List ℕ) → length start ≤ i → length xs ≡ length start → length start ≡ length ys → Replaced f start ys i xs → xs ≡ zip_with f start ys
-  all-replaced i xs h l e r = ext_get_or 0 xs (zip_with f start ys) (l ∙ sym (zip_length f start ys e)) (λ k less. r.done k (omega arith) ∙ sym (zip_at f start ys k 0 0 0 (omega arith) (omega arith)))
+  all-replaced i xs h l e r = ext_get_or 0 xs (zip_with f start ys) (l ∙ sym (zip_length f start ys (omega arith))) (λ k less. r.done k (omega arith) ∙ sym (zip_at f start ys k 0 0 0 (omega arith) (omega arith)))
