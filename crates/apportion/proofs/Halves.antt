@@ -45,6 +45,9 @@ module _ (total percent : ℕ) (h : percent ≤ 50) where
   abbrev left : ℕ
   left = total - (total * (100 - percent) / 100 + (total * percent / 100 + 0))
 
+  whole : 100 - percent + (percent + 0) ≡ 100
+  whole = omega arith
+
   -- the first part's key and the second's
   abbrev keys : TieRule → ℕ × ℕ
   keys EarlierFirst = (r, s)
@@ -62,8 +65,8 @@ module _ (total percent : ℕ) (h : percent ≤ 50) where
 
   pub first_part : (ties : TieRule) → get_or (shares ties total pair) 0 0 ≡ half_up
   unfolding shares_by
-  first_part EarlierFirst = let e : 100 - percent + (percent + 0) ≡ 100 = omega arith in rw e (omega (arith, both, first_is EarlierFirst))
-  first_part LargerFirst = let e : 100 - percent + (percent + 0) ≡ 100 = omega arith in rw e (omega (arith, both, first_is LargerFirst))
+  first_part EarlierFirst = rw whole (omega (arith, both, first_is EarlierFirst))
+  first_part LargerFirst = rw whole (omega (arith, both, first_is LargerFirst))
 
   pub second-part : (ties : TieRule) → get_or (shares ties total pair) 1 0 ≡ total - half_up
   unfolding shares_by

@@ -21,7 +21,7 @@ quotas total ws = map (quota total (sum ws)) ws
 abbrev pub leftover : ℕ → List ℕ → ℕ
 leftover total ws = total - sum (quotas total ws)
 
--- ---- the leftover goes one each to the largest keys, ties to the earlier item
+-- ---- the leftover goes one each to the largest keys, of equal keys to the earlier item
 -- 1 for yes, 0 for no
 abbrev pub bit : Bool → ℕ
 bit true = 1

@@ -1,7 +1,7 @@
 // Who gets the leftover: without sorting, by a threshold that separates those who do from those who don't.
 ghost use Rattle.std.specs.Prelude.{◌≡◌, [], true, ℕ, ◌+◌, ◌-◌, ◌^◌, ◌≤◌, ◌<◌, length, get_or};
 ghost use Rattle.apportion.specs.Shares.{extras, added};
-ghost use Rattle.apportion.specs.Inner.Selection.{Cuts, Collected, given, ties};
+ghost use Rattle.apportion.specs.Inner.Selection.{Cuts, Collected, given, given_ties};
 
 use super::narrowing::{Cut, Leftover};
 
@@ -124,7 +124,7 @@ impl<'a> Leftover<'a> {
         all.threshold_near(&mut near)
     }
 
-    // The leftover goes one each to the largest keys, ties to the earlier item.
+    // The leftover goes one each to the largest keys, of equal keys to the earlier item.
     pub(crate) fn give(&self, out: &mut [u32])
         requires { (length out.old ≡ length self.now.keys.now) × ((j : ℕ) → get_or out.old j 0 < 2 ^ 32 - 2) }
         ensures { out.new ≡ added out.old (extras self.now.left [] self.now.keys.now) }
@@ -157,7 +157,7 @@ pub(crate) fn give_above(keys: &[u64], theta: u64, out: &mut [u32])
 // One more for the earliest of the keys at theta, while there is one to spare.
 fn give_ties(keys: &[u64], cut: Cut, out: &mut [u32])
     requires { (length out.old ≡ length keys.now) × ((j : ℕ) → get_or out.old j 0 < 2 ^ 32 - 1) }
-    ensures { out.new ≡ added out.old (ties cut.theta cut.spare keys.now) }
+    ensures { out.new ≡ added out.old (given_ties cut.theta cut.spare keys.now) }
 {
     let mut left = cut.spare;
     for (i, &k) in keys.iter().enumerate() {

@@ -56,14 +56,14 @@ given θ spare [] = []
 given θ spare (k ∷ ks) = one θ spare k ∷ given θ (spare_after θ spare k) ks
 
 -- one for a key that equals θ while there is one to spare
-abbrev pub tie : Bool → ℕ → ℕ
-tie true spare = bit (nat_lt 0 spare)
-tie false spare = 0
+abbrev pub given_tie : Bool → ℕ → ℕ
+given_tie true spare = bit (nat_lt 0 spare)
+given_tie false spare = 0
 
 -- what the keys that equal θ are given
-abbrev pub ties : ℕ → ℕ → List ℕ → List ℕ
-ties θ spare [] = []
-ties θ spare (k ∷ ks) = tie (k == θ) spare ∷ ties θ (spare - tie (k == θ) spare) ks
+abbrev pub given_ties : ℕ → ℕ → List ℕ → List ℕ
+given_ties θ spare [] = []
+given_ties θ spare (k ∷ ks) = given_tie (k == θ) spare ∷ given_ties θ (spare - given_tie (k == θ) spare) ks
 
 -- ---- the weights at a threshold of the keys
 -- an item's weight where its key is θ, else 0
