@@ -8,11 +8,11 @@ use Rattle.sheet.specs.Refusals.{first_refusal}
 use Rattle.sheet.specs.RuleSets.{newest}
 use Rattle.sheet.specs.Layout.{in_bytes, unit_row, rows, sheet_of}
 use Rattle.sheet.specs.Check.{header_tests, row_tests, field_rules, row_rules, sheet_rules}
-use Rattle.sheet.specs.Cases.Samples.{unit_bytes, joined, sheet_bytes}
+use Rattle.sheet.specs.Cases.Samples.{unit_bytes, joined, sheet_bytes, simple}
 use Rattle.charges.specs.Charges.{amounts, charge_weights, columns, by_unit, fixed_charges}
 use Rattle.charges.specs.Answer.{over_limit, no_load, call_rules, charge_answer, charges_after}
 use Rattle.charges.specs.Laws.{ChargeLaws}
-use Rattle.charges.specs.Cases.Charges.{simple, three}
+use Rattle.charges.specs.Cases.Charges.{three}
 use Rattle.charges.proofs.Laws.{accepted-laws}
 
 -- 1S, by q 1,000, 2,000, 7,000

@@ -14,6 +14,7 @@ ghost use Rattle.yearbook.specs.LentBook.{lent, open_answer, opened, post_answer
 ghost use Rattle.group.specs.Answer.{group_answer, group_after};
 ghost use Rattle.charges.specs.Charges.{amounts};
 ghost use Rattle.charges.specs.Answer.{charge_answer, charges_after};
+ghost use Rattle.fund.specs.Answer.{collect_answer, collected, pay_answer, paid_out};
 ghost use Rattle.heatcost.specs.Answer.{answer_number, group_number};
 ghost use Rattle.heatcost.specs.Year.{year_list_answer, year_list_after};
 
@@ -187,4 +188,22 @@ pub extern "C" fn heatcost_fixed_charges(
         supplier,
     };
     answer(charges::fixed_charges(sheet, model, amounts, charges))
+}
+
+// A month's fees into a fund, a balance in cents, at a rate in thousandths of a cent per m² (2026-07).
+#[unsafe(no_mangle)]
+pub extern "C" fn heatcost_collect_fees(fund: &mut u64, sheet: &[u8], rate: u32) -> u32
+    ensures value { result ≡ answer_number (collect_answer fund.old sheet.now rate) }
+    ensures fund_after { fund.new ≡ collected fund.old sheet.now rate }
+{
+    answer(fund::collect_fees(fund, sheet, rate))
+}
+
+// A decided amount in cents out of a fund (2026-07).
+#[unsafe(no_mangle)]
+pub extern "C" fn heatcost_pay_out(fund: &mut u64, amount: u64) -> u32
+    ensures value { result ≡ answer_number (pay_answer fund.old amount) }
+    ensures fund_after { fund.new ≡ paid_out fund.old amount }
+{
+    answer(fund::pay_out(fund, amount))
 }

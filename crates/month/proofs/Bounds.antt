@@ -16,7 +16,7 @@ use Rattle.sheet.specs.RuleSets.{limits_risers}
 use Rattle.sheet.specs.Layout.{UnitRow, Sheet}
 use Rattle.sheet.specs.Inner.Fits.{UnitFits}
 use Rattle.sheet.specs.Tests.{Each}
-use Rattle.month.specs.Weights.{those, sum_of, is_read, metered_sum, total_area, unread_weight, unread_weights, pool_weight, reading_sum, read_area, read_surface, r_by, limited, area_weight, surface_weight, read_weight, read_weights, units_of_class, litres_of_class1, persons_of_class2, water_weight, common_water_weight}
+use Rattle.month.specs.Weights.{those, sum_of, is_read, metered_sum, total_area, has_no_device, unread_weight, unread_weights, pool_weight, reading_sum, read_area, read_surface, r_by, limited, area_weight, surface_weight, read_weight, read_weights, units_of_class, litres_of_class1, persons_of_class2, water_weight, common_water_weight}
 use Rattle.month.specs.Month.{bill_cents}
 use Rattle.month.specs.Inner.Accepted.{CheckedSheet}
 use Rattle.month.specs.Inner.Bounds.{SumBounds, WeightBounds}
@@ -88,7 +88,7 @@ module _ (s : Sheet) (c : CheckedSheet s) where
   module _ (u : UnitRow) (h : UnitFits s u) where
     unread_le : unread_weight s u ≤ 350000000
     unfolding unread_weight
-    unread_le = elim (decided (eqb u.status 1 || eqb u.status 4)) [
+    unread_le = elim (decided (has_no_device u)) [
       | inl e ↦ rw e (three_le h.heated_area h.location_factor c.header.unmetered_factor_high)
       | inr e ↦ rw e (omega (arith, h.heated_area))
     ]

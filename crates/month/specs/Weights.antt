@@ -43,10 +43,14 @@ has_pool s = leb 3 s.model && not (all_metered s)
 unfoldable pub total_area : Sheet → ℕ
 total_area s = sum_of (λ u. u.heated_area) s.units
 
+-- counts as without a device: status 1 and 4
+abbrev pub has_no_device : UnitRow → Bool
+has_no_device u = eqb u.status 1 || eqb u.status 4
+
 -- a unit that is not read: p × KF × f (status 1, 4) or p × 10,000 (status 2, 3)
 unfoldable pub unread_weight : Sheet → UnitRow → ℕ
 unread_weight s u =
-    if eqb u.status 1 || eqb u.status 4 then u.heated_area * u.location_factor * s.unmetered_factor
+    if has_no_device u then u.heated_area * u.location_factor * s.unmetered_factor
     else u.heated_area * 10000
 
 unfoldable pub unread_weights : Sheet → List ℕ

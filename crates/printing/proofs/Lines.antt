@@ -7,7 +7,7 @@ use native.Mathlib.Numerals.{add-one}
 use lib.ListN.{length, get_or, take, drop, length-append, length-take, length-drop}
 use lib.Seq.{get_or-take, get_or-drop, take_at, drop_at, drop-cons}
 use Rattle.sheet.specs.declared.refusal.Refusal.{Refusal}
-use Rattle.sheet.specs.declared.refusal.Refusal.TheVariants.{TooShort, BadMagic, UnsupportedVersion, HeaderField, WrongLength, RowField, IdOrder, HotWaterExceedsMeter, ZeroDivisor, NoReadings, MetersExceedHeat, UnmeteredExceedsHeat, BufferLength, BadArchive, BadYearBook, OtherBuilding, MonthState, NoSuchUnit, BadYearSums, FieldConflict, NegativeCommonHeat, BadGroup}
+use Rattle.sheet.specs.declared.refusal.Refusal.TheVariants.{TooShort, BadMagic, UnsupportedVersion, HeaderField, WrongLength, RowField, IdOrder, HotWaterExceedsMeter, ZeroDivisor, NoReadings, MetersExceedHeat, UnmeteredExceedsHeat, BufferLength, BadArchive, BadYearBook, OtherBuilding, MonthState, NoSuchUnit, BadYearSums, FieldConflict, NegativeCommonHeat, BadGroup, FundShort, RateTooHigh, FundFull}
 use Rattle.sheet.specs.Refusals.{number_of, place_of}
 use Rattle.sheet.specs.declared.rule_set.RuleSet.{RuleSet}
 use Rattle.sheet.specs.RuleSets.{newest}
@@ -31,7 +31,7 @@ module _ (r : Refusal) {number place : ℕ} (is₁ : number ≡ number_of r) (is
   pub refusal_line-long : length (refusal_line r) ≡ 10 + length (decimal number) + length (decimal place)
   refusal_line-long = rw (← refusal_line_parts) (simp length-append (omega arith))
 
-pub number_le : (r : Refusal) → number_of r ≤ 22
+pub number_le : (r : Refusal) → number_of r ≤ 25
 number_le TooShort = omega arith
 number_le BadMagic = omega arith
 number_le UnsupportedVersion = omega arith
@@ -54,6 +54,9 @@ number_le BadYearSums = omega arith
 number_le (FieldConflict i) = omega arith
 number_le NegativeCommonHeat = omega arith
 number_le BadGroup = omega arith
+number_le FundShort = omega arith
+number_le RateTooHigh = omega arith
+number_le FundFull = omega arith
 
 pub refusal_short : (r : Refusal) → length (refusal_line r) ≤ 49
 refusal_short r = omega (arith, refusal_line-long r refl refl, number_le r, decimal-short 1 (number_of r) (omega (arith, number_le r)), decimal_most (place_of r))

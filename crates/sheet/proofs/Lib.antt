@@ -3,6 +3,7 @@ pub mod Views
 pub mod Inside
 pub mod Passed
 pub mod Rules
+pub mod Chains
 pub mod RowViews
 pub mod Units
 pub mod Fits

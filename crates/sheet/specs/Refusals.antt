@@ -3,7 +3,8 @@ use Rattle.std.specs.Prelude.{Bool, true, false, List, [], ◌∷◌, ℕ, Resul
 use Rattle.sheet.specs.declared.refusal.Refusal.{Refusal}
 use Rattle.sheet.specs.declared.refusal.Refusal.TheVariants.{TooShort, BadMagic, UnsupportedVersion, HeaderField, WrongLength, RowField, IdOrder}
 use Rattle.sheet.specs.declared.refusal.Refusal.TheVariants.{HotWaterExceedsMeter, ZeroDivisor, NoReadings, MetersExceedHeat, UnmeteredExceedsHeat}
-use Rattle.sheet.specs.declared.refusal.Refusal.TheVariants.{BufferLength, BadArchive, BadYearBook, OtherBuilding, MonthState, NoSuchUnit, BadYearSums, FieldConflict, NegativeCommonHeat, BadGroup}
+use Rattle.sheet.specs.declared.refusal.Refusal.TheVariants.{BufferLength, BadArchive, BadYearBook, OtherBuilding, MonthState, NoSuchUnit, BadYearSums, FieldConflict}
+use Rattle.sheet.specs.declared.refusal.Refusal.TheVariants.{NegativeCommonHeat, BadGroup, FundShort, RateTooHigh, FundFull}
 
 -- the document's number, with the trade's word. Wherever 1 to 7 or 1 to 12 is named, 20 goes along with 6 (2026-03).
 abbrev pub number_of : Refusal → ℕ
@@ -29,6 +30,9 @@ number_of BadYearSums = 19  -- sums (2026-02)
 number_of (FieldConflict i) = 20  -- clash (2026-03)
 number_of NegativeCommonHeat = 21  -- difference (2026-04)
 number_of BadGroup = 22  -- group (2026-04)
+number_of FundShort = 23  -- fund short (2026-07)
+number_of RateTooHigh = 24  -- rate (2026-07)
+number_of FundFull = 25  -- fund full (2026-07)
 
 -- the place: the row from 0 for 6, 7 and 20; the header field's first byte in the sheet for 4 (2026-03), 0 where 4 is about the call itself (2026-05); else 0
 abbrev pub place_of : Refusal → ℕ
@@ -54,6 +58,9 @@ place_of BadYearSums = 0
 place_of (FieldConflict i) = i
 place_of NegativeCommonHeat = 0
 place_of BadGroup = 0
+place_of FundShort = 0
+place_of RateTooHigh = 0
+place_of FundFull = 0
 
 -- A rule `condition ⇒ refusal`.
 infix 20 ◌⇒◌

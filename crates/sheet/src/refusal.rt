@@ -1,4 +1,4 @@
-// Why a sheet or a call is refused (document 01, "Refused sheets and calls", 19 by request 2026-02, 20 by 2026-03, 21 and 22 by 2026-04). The row cases hold the row's place, from 0; the header case holds the byte offset in the sheet, or 0 where it is about what a call is given beside it (2026-05).
+// Why a sheet or a call is refused (document 01, "Refused sheets and calls", 19 by request 2026-02, 20 by 2026-03, 21 and 22 by 2026-04, 23 to 25 by 2026-07). The row cases hold the row's place, from 0; the header case holds the byte offset in the sheet, or 0 where it is about what a call is given beside it (2026-05).
 ghost use Rattle.std.specs.Prelude.{◌≡◌};
 ghost use Rattle.sheet.specs.Refusals.{number_of, place_of};
 
@@ -26,6 +26,9 @@ pub enum Refusal {
     FieldConflict(u32),
     NegativeCommonHeat,
     BadGroup,
+    FundShort,
+    RateTooHigh,
+    FundFull,
 }
 
 impl Refusal {
@@ -56,6 +59,9 @@ impl Refusal {
             Refusal::FieldConflict(i) => (20, i),
             Refusal::NegativeCommonHeat => (21, 0),
             Refusal::BadGroup => (22, 0),
+            Refusal::FundShort => (23, 0),
+            Refusal::RateTooHigh => (24, 0),
+            Refusal::FundFull => (25, 0),
         }
     }
 

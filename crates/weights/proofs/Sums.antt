@@ -10,7 +10,7 @@ use lib.ListN.{length}
 use Rattle.sheet.specs.Layout.{UnitRow, Sheet}
 use Rattle.sheet.specs.Inner.Fits.{UnitFits}
 use Rattle.sheet.specs.Tests.{Each}
-use Rattle.month.specs.Weights.{those, sum_of, is_read, unread_weight, total_area, unread_weights, read_area, read_surface, reading_sum, units_of_class, litres_of_class1, persons_of_class2}
+use Rattle.month.specs.Weights.{those, sum_of, is_read, has_no_device, unread_weight, total_area, unread_weights, read_area, read_surface, reading_sum, units_of_class, litres_of_class1, persons_of_class2}
 use Rattle.month.proofs.Lists.{decided, sum_append}
 use Rattle.month.proofs.Accepted.{sum-those}
 use Rattle.month.proofs.Bounds.{sum-at_most, three_le}
@@ -60,7 +60,7 @@ only_le false h = omega arith
 pub unread_le : (s : Sheet) (u : UnitRow) → s.unmetered_factor ≤ 35 → UnitFits s u → unread_weight s u ≤ 350000000
 unfolding unread_weight
 unread_le s u f h =
-    elim (decided (eqb u.status 1 || eqb u.status 4)) [
+    elim (decided (has_no_device u)) [
       | inl e ↦ rw e (three_le h.heated_area h.location_factor f)
       | inr e ↦ rw e (omega (arith, h.heated_area))
     ]

@@ -1,7 +1,7 @@
 // What a row's status and water class say.
-ghost use Rattle.std.specs.Prelude.{◌≡◌, ◌||◌, eqb};
+ghost use Rattle.std.specs.Prelude.{◌≡◌, eqb};
 ghost use Rattle.sheet.specs.Inner.Views.{unit_in};
-ghost use Rattle.month.specs.Weights.{is_read};
+ghost use Rattle.month.specs.Weights.{is_read, has_no_device};
 
 use sheet::{RowView, Status, WaterClass};
 
@@ -11,9 +11,9 @@ pub fn is_read(row: RowView<'_>) -> bool
     row.status() == Status::Read
 }
 
-// The factor for unmetered units applies.
-pub(crate) fn has_no_device(row: RowView<'_>) -> bool
-    ensures { result ≡ (eqb (unit_in row.entry).status 1 || eqb (unit_in row.entry).status 4) }
+// Counts as without a device: status 1 and 4.
+pub fn has_no_device(row: RowView<'_>) -> bool
+    ensures { result ≡ has_no_device (unit_in row.entry) }
 {
     matches!(row.status(), Status::NoDevice | Status::LaterFault)
 }

@@ -13,6 +13,6 @@ mod units;
 
 pub use accepted::Month;
 pub use basis::Basis;
-pub use kinds::is_read;
+pub use kinds::{has_no_device, is_read};
 pub use metered::{all_metered, metered_heat};
 pub use totals::Totals;

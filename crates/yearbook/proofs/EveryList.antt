@@ -1,7 +1,7 @@
 -- Demand 3 (specs/Theorem.antt). Assumes nothing.
-use mathlib.Core.Path.{◌≡◌, refl, ap₂, sym, subst, ◌∙◌}
+use mathlib.Core.Path.{◌≡◌, sym, subst, ◌∙◌}
 use mathlib.Core.Logic.{◌≢◌}
-use mathlib.Core.List.{List, ◌∷◌, map}
+use mathlib.Core.List.{List, map}
 use Prim.Native.Nat.{ℕ, ◌+◌, ◌<◌}
 use native.Mathlib.Omega.{arith}
 use lib.ListN.{get_or}
@@ -10,6 +10,8 @@ use Rattle.sheet.specs.declared.refusal.Refusal.TheVariants.{BadYearSums}
 use Rattle.sheet.specs.RuleSets.{newest}
 use Rattle.sheet.specs.Layout.{sheet_of}
 use Rattle.sheet.specs.Tests.{Each}
+use Rattle.sheet.specs.Chains.{CallsMade, replies, after_all}
+use Rattle.sheet.proofs.Chains.{all_follow}
 use Rattle.month.specs.Fraction.{Near}
 use Rattle.month.specs.Month.{bill_cents, month_of}
 use Rattle.month.specs.Portions.{energy_portion, bill_part}
@@ -18,10 +20,10 @@ use Rattle.month.proofs.Nearness.{near_more}
 use Rattle.month.proofs.Laws.{settled-laws}
 use Rattle.month.proofs.Lists.{sum_to_cong}
 use Rattle.yearbook.specs.Calls.{Call, Reply, refused}
-use Rattle.yearbook.specs.PlainBook.{PlainBook, opened_plain, standing, number_in, unit_sums, called, plain_replies, plain_after}
-use Rattle.yearbook.specs.LentBook.{Lent}
+use Rattle.yearbook.specs.PlainBook.{PlainBook, opened_plain, standing, number_in, unit_sums, called}
+use Rattle.yearbook.specs.LentBook.{Lent, Answered}
 use Rattle.yearbook.specs.Matches.{Matches}
-use Rattle.yearbook.specs.Theorem.{CallsMade, no_call, then, Kept, EveryListOfCalls}
+use Rattle.yearbook.specs.Theorem.{Kept, EveryListOfCalls}
 use Rattle.yearbook.proofs.Sums.{each-held, each_map, sums_swap, sum_cong, near_sum, eight-at}
 use Rattle.yearbook.proofs.Answers.{open_accepted}
 use Rattle.yearbook.proofs.Shows.{Good, Shows, shows-fresh}
@@ -30,14 +32,11 @@ use Rattle.yearbook.proofs.Never19.{plain_never}
 use Rattle.yearbook.proofs.Steps.{year-call, call_so}
 
 -- ---- a list of calls
-run : {n : ℕ} {l l' : Lent} {cs : List Call} {rs : List Reply} → CallsMade l cs rs l' → (p : PlainBook) → Shows n l.book p → Matches l
-    → (rs ≡ plain_replies p cs) × Shows n l'.book (plain_after p cs) × Matches l'
-unfolding plain_replies plain_after
-run no_call p h m = (refl, h, m)
-run {n} (then {l = l} {l' = l'} {c = c} {r = r} a k) p h m =
-    let f = call_so h m c in
-    let rest = run k (called p c).after (subst (λ (x : Lent). Shows n x.book (called p c).after) (sym a.after) f.shows) (match_kept l l' c r a m) in
-    (ap₂ (λ (x : Reply) (l : List Reply). x ∷ l) (a.reply ∙ f.reply) rest.0, rest.1, rest.2)
+run : {n : ℕ} {l l' : Lent} {cs : List Call} {rs : List Reply} → CallsMade Answered l cs rs l' → (p : PlainBook) → Shows n l.book p × Matches l
+    → (rs ≡ replies called p cs) × (Shows n l'.book (after_all called p cs) × Matches l')
+run {n} = all_follow (λ l p. Shows n l.book p × Matches l) (λ l l' c r p a h.
+    let f = call_so h.0 h.1 c in
+    (a.reply ∙ f.reply, (subst (λ (x : Lent). Shows n x.book (called p c).after) (sym a.after) f.shows, match_kept l l' c r a h.1)))
 
 -- ---- the laws of the standing months
 laws : {n : ℕ} {sheet : List ℕ} → Good n sheet → MonthLaws newest (sheet_of sheet) (month_of newest (sheet_of sheet))
@@ -90,14 +89,14 @@ module _ {n : ℕ} {l : Lent} {p : PlainBook} (h : Shows n l.book p) (m : Matche
 
 -- ---- the theorem
 pub every_list_of_calls : EveryListOfCalls
-every_list_of_calls before start l opening o calls replies size count passes opens made =
+every_list_of_calls before start l opening o calls answers size count passes opens made =
     let fresh = open_accepted before opening size passes count in
     let start_is = fresh.after ∙ sym opens.after in
     let shown = subst (λ (x : Lent). Shows (sheet_of opening).unit_count x.book (opened_plain opening)) start_is (shows-fresh opening passes) in
-    let all = run made (opened_plain opening) shown (subst Matches start_is (match_fresh opening)) in
+    let all = run made (opened_plain opening) (shown, subst Matches start_is (match_fresh opening)) in
     record {
       opens = opens.answer ∙ sym fresh.answer;
       same-replies = all.0;
       never_19 = subst (Each (λ r. r ≢ refused BadYearSums)) (sym all.0) (plain_never (opened_plain opening) calls);
-      kept = kept all.1 all.2;
+      kept = kept all.1.0 all.1.1;
     }

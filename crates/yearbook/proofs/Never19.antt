@@ -15,6 +15,7 @@ use Rattle.sheet.specs.declared.refusal.Refusal.{Refusal}
 use Rattle.sheet.specs.declared.refusal.Refusal.TheVariants.{OtherBuilding, MonthState, NoSuchUnit, BadYearSums}
 use Rattle.sheet.specs.Refusals.{Outcome, first_refusal, number_of}
 use Rattle.sheet.specs.Tests.{Each}
+use Rattle.sheet.specs.Chains.{Step, replies}
 use Rattle.sheet.specs.RuleSets.{newest}
 use Rattle.sheet.specs.Check.{◌to◌, ◌within◌, passes, sheet_rules}
 use Rattle.sheet.specs.Inner.Places.{IfRefused, UpTo}
@@ -24,11 +25,11 @@ use Rattle.month.specs.Month.{Settled, month_rules, settle_rules, month_of, stat
 use Rattle.month.specs.Laws.{sum_to}
 use Rattle.month.proofs.Laws.{settled-laws}
 use Rattle.month.proofs.Places.{month-first}
-use Rattle.yearbook.specs.Calls.{Call, post, replace, withdraw, year, refused}
+use Rattle.yearbook.specs.Calls.{Call, post, replace, withdraw, year, Reply, refused}
 use Rattle.year_sums.specs.YearSums.{most64, bad_sums}
 use Rattle.yearbook.specs.LentBook.{Lent, mark_at, block_at, block_length, if_marked}
 use Rattle.yearbook.specs.Matches.{block_sum, Matches}
-use Rattle.yearbook.specs.PlainBook.{PlainBook, Step, stands, not_kept, refuse, now_holds, brought, withdrawn, told, called, plain_replies}
+use Rattle.yearbook.specs.PlainBook.{PlainBook, stands, not_kept, refuse, now_holds, brought, withdrawn, told, called}
 use Rattle.year_sums.proofs.Lists.{none_of_two}
 use Rattle.year_sums.proofs.Updating.{not-bad}
 use Rattle.yearbook.proofs.Sums.{or_zero, IfHeld}
@@ -97,7 +98,7 @@ settle_never sheet =
 not-refused : {r : Refusal} → r ≢ BadYearSums → refused r ≢ refused BadYearSums
 not-refused d e = d cc
 
-step_never : (t : Bool) (p : PlainBook) (r : Refusal) (step : Step) → r ≢ BadYearSums → step.reply ≢ refused BadYearSums → (if t then refuse p r else step).reply ≢ refused BadYearSums
+step_never : (t : Bool) (p : PlainBook) (r : Refusal) (step : Step PlainBook Reply) → r ≢ BadYearSums → step.reply ≢ refused BadYearSums → (if t then refuse p r else step).reply ≢ refused BadYearSums
 step_never true p r step d f = not-refused d
 step_never false p r step d f = f
 
@@ -123,7 +124,7 @@ call_never p (year place) =
     step_never (not (ltb place p.unit_count)) p NoSuchUnit _ (λ e. absurd (let z : ◌≡◌ {A = ℕ} 18 19 = ap number_of e in omega arith))
     (λ e. absurd (let z : ◌≡◌ {A = ℕ} 0 1 = cc in omega arith))
 
-pub plain_never : (p : PlainBook) (cs : List Call) → Each (λ r. r ≢ refused BadYearSums) (plain_replies p cs)
-unfolding plain_replies
+pub plain_never : (p : PlainBook) (cs : List Call) → Each (λ r. r ≢ refused BadYearSums) (replies called p cs)
+unfolding replies
 plain_never p [] = tt
 plain_never p (c ∷ cs) = (call_never p c, plain_never (called p c).after cs)

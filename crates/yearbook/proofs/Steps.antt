@@ -15,13 +15,14 @@ use Rattle.sheet.specs.declared.refusal.Refusal.TheVariants.{OtherBuilding, Mont
 use Rattle.sheet.specs.RuleSets.{newest}
 use Rattle.sheet.specs.Check.{◌to◌, ◌within◌, passes}
 use Rattle.sheet.specs.Layout.{sheet_of}
+use Rattle.sheet.specs.Chains.{Step}
 use Rattle.sheet.proofs.Passed.{in_range}
 use Rattle.month.specs.Month.{Month, Settled, month_of, settled_sheet, statement_of}
 use Rattle.month.specs.Laws.{sum_to}
 use Rattle.month.proofs.Laws.{settled-month}
 use Rattle.month.proofs.Lists.{sum_to_cong}
 use Rattle.yearbook.specs.Calls.{Call, post, replace, withdraw, year, Reply, totals}
-use Rattle.yearbook.specs.PlainBook.{PlainBook, Step, has_sheet, stands, standing, sheets_of, not_kept, refuse, tell, now_holds, brought, withdrawn, told, called, number_in, unit_sums}
+use Rattle.yearbook.specs.PlainBook.{PlainBook, has_sheet, stands, standing, sheets_of, not_kept, refuse, tell, now_holds, brought, withdrawn, told, called, number_in, unit_sums}
 use Rattle.yearbook.specs.LentBook.{Lent, block_length, block_in, block_of, zero_block, unit_count_in, mark_at, marked, bad_book, other_building, if_marked, marks_in, sums_at, with_sheet, clear_month, place_of_month, lent_reply, lent_after, Answered}
 use Rattle.yearbook.specs.Matches.{block_sum, Matches}
 use Rattle.yearbook.proofs.Sums.{or_zero, sum-held, sum_ones, eight_cong}
@@ -39,7 +40,7 @@ use Rattle.yearbook.specs.Inner.Bring.{bring_call, wrong_month, taken_off}
 use Rattle.yearbook.proofs.Answers.{bring_refused, bring_16, bring_17, bring_accepted, withdraw-low, withdraw-high, withdraw_17, withdraw-accepted, tells_18, tells_totals}
 use Rattle.yearbook.proofs.Shows.{At, Shows, if_marked_lem, shows-sound, shows-ids, shows-cleared, shows-sheet}
 
-pub record Follows (n : ℕ) (l : Lent) (c : Call) (step : Step) : Type 0 where
+pub record Follows (n : ℕ) (l : Lent) (c : Call) (step : Step PlainBook Reply) : Type 0 where
   pub reply : lent_reply l c ≡ step.reply
   pub shows : Shows n (lent_after l c).book step.after
 

@@ -6,6 +6,7 @@ use Rattle.sheet.specs.declared.refusal.Refusal.{Refusal}
 use Rattle.sheet.specs.declared.refusal.Refusal.TheVariants.{OtherBuilding, MonthState, NoSuchUnit}
 use Rattle.sheet.specs.RuleSets.{newest}
 use Rattle.sheet.specs.Layout.{sheet_of}
+use Rattle.sheet.specs.Chains.{Step}
 use Rattle.sheet.specs.Check.{◌to◌, ◌within◌, passes, same_list}
 use Rattle.month.specs.Month.{Month, Settled, settled_sheet, statement_of}
 use Rattle.yearbook.specs.Calls.{Call, post, replace, withdraw, year, Reply, accepted, refused, totals, eight}
@@ -40,22 +41,18 @@ abbrev pub standing : PlainBook → List (List ℕ)
 standing p = sheets_of p.months
 
 -- ---- a call: its reply, and the book afterwards
-pub record Step : Type 0 where
-  pub reply : Reply
-  pub after : PlainBook
-
 -- the month now holds a sheet or nothing
-unfoldable pub now_holds : PlainBook → ℕ → Option (List ℕ) → Step
+unfoldable pub now_holds : PlainBook → ℕ → Option (List ℕ) → Step PlainBook Reply
 now_holds p month held = record {
   reply = accepted;
   after = record { unit_count = p.unit_count; ids = p.ids; months = set p.months (month - 1) held };
 }
 
 -- The year call and every refused call change nothing.
-abbrev pub refuse : PlainBook → Refusal → Step
+abbrev pub refuse : PlainBook → Refusal → Step PlainBook Reply
 refuse p r = record { reply = refused r; after = p }
 
-abbrev pub tell : PlainBook → ℕ → List ℕ → Step
+abbrev pub tell : PlainBook → ℕ → List ℕ → Step PlainBook Reply
 tell p k sums = record { reply = totals k sums; after = p }
 
 -- a sheet's n or ids aren't the kept ones
@@ -64,7 +61,7 @@ not_kept p m = not (eqb m.unit_count p.unit_count) || not (same_list m.ids p.ids
 
 -- Post and replace bring a sheet and settle it by the newest rules. They are refused by 1 to 12,
 -- by 16 when its n or ids aren't the kept ones, and by 17 when its month stands (post) or doesn't (replace); otherwise its month now holds that sheet.
-unfoldable pub brought : PlainBook → (sheet : List ℕ) → (wrong_month : ℕ → Bool) → Settled → Step
+unfoldable pub brought : PlainBook → (sheet : List ℕ) → (wrong_month : ℕ → Bool) → Settled → Step PlainBook Reply
 brought p sheet wrong_month (Settled.refused r) = refuse p r
 brought p sheet wrong_month (Settled.settled m) =
     if not_kept p m then refuse p OtherBuilding
@@ -72,7 +69,7 @@ brought p sheet wrong_month (Settled.settled m) =
     else now_holds p m.month (some sheet)
 
 -- Withdraw brings a month and is refused by 17 when that isn't 1–12 or doesn't stand; otherwise the month holds nothing.
-unfoldable pub withdrawn : PlainBook → ℕ → Step
+unfoldable pub withdrawn : PlainBook → ℕ → Step PlainBook Reply
 withdrawn p month =
     if not (passes (month within 1 to 12)) || not (stands p month) then refuse p MonthState
     else now_holds p month none
@@ -86,22 +83,13 @@ unfoldable pub unit_sums : PlainBook → ℕ → List ℕ
 unit_sums p place = map (λ j. sum (map (number_in place j) (standing p))) eight
 
 -- The year call brings a place, is refused by 18 when that isn't below n, and otherwise gives k, the number of standing months, and the eight sums.
-unfoldable pub told : PlainBook → ℕ → Step
+unfoldable pub told : PlainBook → ℕ → Step PlainBook Reply
 told p place =
     if not (ltb place p.unit_count) then refuse p NoSuchUnit
     else tell p (length (standing p)) (unit_sums p place)
 
-unfoldable pub called : PlainBook → Call → Step
+unfoldable pub called : PlainBook → Call → Step PlainBook Reply
 called p (post sheet) = brought p sheet (λ month. stands p month) (settled_sheet newest sheet)
 called p (replace sheet) = brought p sheet (λ month. not (stands p month)) (settled_sheet newest sheet)
 called p (withdraw month) = withdrawn p month
 called p (year place) = told p place
-
--- ---- a list of calls
-unfoldable pub plain_replies : PlainBook → List Call → List Reply
-plain_replies p [] = []
-plain_replies p (c ∷ cs) = (called p c).reply ∷ plain_replies (called p c).after cs
-
-unfoldable pub plain_after : PlainBook → List Call → PlainBook
-plain_after p [] = p
-plain_after p (c ∷ cs) = plain_after (called p c).after cs

@@ -10,7 +10,7 @@ use Rattle.sheet.specs.declared.rule_set.RuleSet.{RuleSet}
 use Rattle.sheet.specs.declared.rule_set.RuleSet.TheVariants.{Archive1, Archive2, Archive3}
 use Rattle.sheet.specs.Layout.{in_bytes, unit_row, rows, sheet_of}
 use Rattle.sheet.specs.Check.{header_tests, row_tests, field_rules, row_rules, sheet_rules}
-use Rattle.sheet.specs.Cases.Samples.{zeros, put, unit_bytes, joined, sheet_bytes, sheet_a, by_ties}
+use Rattle.sheet.specs.Cases.Samples.{put, unit_bytes, joined, sheet_bytes, simple, sized, good, order, watered, unsettled, by_ties}
 use Rattle.month.specs.Weights.{all_metered, metered_sum, has_pool, total_area, unread_weight, unread_weights, read_surface, units_of_class, litres_of_class1, persons_of_class2}
 use Rattle.month.specs.Steps.{split_by, hot_water, space_heat, heat_parts}
 use Rattle.month.specs.Month.{hot_water_wh, space_heat_wh, zero_water_divisor, zero_divisor, month_rules, settle_rules}
@@ -18,66 +18,32 @@ use Rattle.charges.specs.Charges.{amounts, charge_weights, columns, by_unit, fix
 use Rattle.charges.specs.Answer.{over_limit, no_load, call_rules, charge_answer, charges_after}
 
 -- ---- sheets in bytes
--- a unit with p and q alone
-abbrev unit : (id p q : ℕ) → List ℕ
-unit id p q = unit_bytes id 0 0 1000 p 0 q 0 0 0
-
--- a sheet of model 1 or 2, M 1,000, without hot water
-unfoldable pub simple : (model : ℕ) → List (List ℕ) → List ℕ
-simple model units = sheet_bytes 1 model 0 0 0 0 0 0 1000 10000 (zeros 6) units
-
 -- p by 5, 3, 2 and q by 1, 2, 7
 unfoldable pub three : (model : ℕ) → List ℕ
-three model = simple model (unit 11 500 1000 ∷ unit 12 300 2000 ∷ unit 13 200 7000 ∷ [])
+three model = simple model (sized 11 500 1000 ∷ sized 12 300 2000 ∷ sized 13 200 7000 ∷ [])
 
 -- p 1, 3, 4 and q 1, 1, 1
 ties : List ℕ
-ties = simple 1 (unit 11 1 1 ∷ unit 12 3 1 ∷ unit 13 4 1 ∷ [])
+ties = simple 1 (sized 11 1 1 ∷ sized 12 3 1 ∷ sized 13 4 1 ∷ [])
 
 -- the first unit's q is 0
 one_without : List ℕ
-one_without = simple 1 (unit 11 500 0 ∷ unit 12 250 900 ∷ unit 13 250 900 ∷ [])
+one_without = simple 1 (sized 11 500 0 ∷ sized 12 250 900 ∷ sized 13 250 900 ∷ [])
 
 -- p and q at their limits
 alone : List ℕ
-alone = simple 1 (unit 11 10000 100000 ∷ [])
+alone = simple 1 (sized 11 10000 100000 ∷ [])
 
 -- p by 2, 3; all q zero
 loadless : List ℕ
-loadless = simple 1 (unit 11 400 0 ∷ unit 12 600 0 ∷ [])
-
--- p by 2, 3 and q by 1, 3
-good : List ℕ
-good = simple 2 (unit 11 400 100 ∷ unit 12 600 300 ∷ [])
-
--- the second row with the first one's id
-abbrev order : List ℕ
-order = put 80 11 good
-
--- p by 1, 2 and q by 2, 1, with statuses and readings
-pair : (status₁ b₁ status₂ b₂ : ℕ) → List (List ℕ)
-pair status₁ b₁ status₂ b₂ = unit_bytes 11 status₁ 0 1000 500 0 200 b₁ 0 0 ∷ unit_bytes 12 status₂ 0 1000 1000 0 100 b₂ 0 0 ∷ []
-
--- model 2, M 1,000, of which h1 is hot water, with no unit that takes any
-watered : (h1 : ℕ) → List ℕ
-watered h1 = sheet_bytes 1 2 1 0 0 0 0 0 1000 10000 (h1 ∷ zeros 5) (pair 0 0 0 0)
-
--- Not to be settled: H 1,001 of M 1,000; H by no litres or persons; model 3 with nobody read; model 5 with C 1,001 of M 1,000; model 3 with f 31 and p 500 of 1,500 without a device.
-unsettled : List (List ℕ)
-unsettled =
-    watered 1001
-    ∷ watered 600
-    ∷ sheet_a 30 (pair 2 0 2 0)
-    ∷ sheet_bytes 1 5 0 0 0 0 30 0 1000 10000 (zeros 6) (pair 0 1001 0 0)
-    ∷ sheet_a 31 (pair 1 0 0 300)
-    ∷ []
+loadless = simple 1 (sized 11 400 0 ∷ sized 12 600 0 ∷ [])
 
 settling : List ℕ → Outcome
 settling bytes = first_refusal (settle_rules bytes)
 
 -- 8 to 12
 not-settled : map settling unsettled ≡ Err HotWaterExceedsMeter ∷ Err ZeroDivisor ∷ Err NoReadings ∷ Err MetersExceedHeat ∷ Err UnmeteredExceedsHeat ∷ []
-unfolding unsettled settling pair watered unit_bytes joined sheet_bytes in_bytes
+unfolding unsettled settling unit_bytes joined sheet_bytes in_bytes
     shares_by all any first_refusal unit_row rows sheet_of header_tests row_tests field_rules row_rules sheet_rules
     all_metered metered_sum has_pool total_area unread_weight unread_weights read_surface units_of_class litres_of_class1 persons_of_class2
     split_by hot_water space_heat heat_parts hot_water_wh space_heat_wh zero_water_divisor zero_divisor month_rules settle_rules
@@ -202,7 +168,7 @@ cases : RuleSet → List Case
 cases rules = accepted_cases rules ++ refused_cases rules
 
 all-cases : (rules : RuleSet) → map given (cases rules) ≡ map expected (cases rules)
-unfolding cases accepted_cases refused_cases unsettled simple three ties one_without alone loadless good pair watered sevens call numbers keeps unit_bytes joined sheet_bytes in_bytes
+unfolding cases accepted_cases refused_cases unsettled simple three ties one_without alone loadless good sevens call numbers keeps unit_bytes joined sheet_bytes in_bytes
     shares_by any first_refusal unit_row rows sheet_of header_tests row_tests field_rules row_rules sheet_rules
     charge_weights columns by_unit fixed_charges over_limit no_load call_rules charge_answer charges_after
 all-cases Archive1 = refl

@@ -44,6 +44,40 @@ units_a b₁ b₂ b₃ = heated 11 0 1000 500 b₁ ∷ heated 12 0 1000 500 b₂
 abbrev pub case_a : List ℕ
 case_a = sheet_a 30 (units_a 100 300 600)
 
+-- of any model, M 1,000, without hot water
+unfoldable pub simple : (model : ℕ) → List (List ℕ) → List ℕ
+simple model units = sheet_bytes 1 model 0 0 0 0 0 0 1000 10000 (zeros 6) units
+
+-- a unit with p and q alone
+abbrev pub sized : (id p q : ℕ) → List ℕ
+sized id p q = unit_bytes id 0 0 1000 p 0 q 0 0 0
+
+-- model 2, p by 2, 3 and q by 1, 3
+unfoldable pub good : List ℕ
+good = simple 2 (sized 11 400 100 ∷ sized 12 600 300 ∷ [])
+
+-- the second row with the first one's id
+abbrev pub order : List ℕ
+order = put 80 11 good
+
+-- p 500 and 1,000, q 200 and 100, with statuses and readings
+abbrev pub pair : (status₁ b₁ status₂ b₂ : ℕ) → List (List ℕ)
+pair status₁ b₁ status₂ b₂ = unit_bytes 11 status₁ 0 1000 500 0 200 b₁ 0 0 ∷ unit_bytes 12 status₂ 0 1000 1000 0 100 b₂ 0 0 ∷ []
+
+-- model 2, M 1,000, of which h1 is hot water, with no unit that takes any
+abbrev pub watered : (h1 : ℕ) → List ℕ
+watered h1 = sheet_bytes 1 2 1 0 0 0 0 0 1000 10000 (h1 ∷ zeros 5) (pair 0 0 0 0)
+
+-- Refused by 8 to 12: H 1,001 of M 1,000; H by no litres or persons; model 3 with nobody read; model 5 with C 1,001 of M 1,000; model 3 with f 31 and p 500 of 1,500 without a device.
+unfoldable pub unsettled : List (List ℕ)
+unsettled =
+    watered 1001
+    ∷ watered 600
+    ∷ sheet_a 30 (pair 2 0 2 0)
+    ∷ sheet_bytes 1 5 0 0 0 0 30 0 1000 10000 (zeros 6) (pair 0 1001 0 0)
+    ∷ sheet_a 31 (pair 1 0 0 300)
+    ∷ []
+
 -- without the limits of model 4 by version 1, with them by the later ones (2026-01)
 abbrev pub by_limits : {A : Type 0} → RuleSet → (without limited : A) → A
 by_limits Archive1 without limited = without

@@ -5,12 +5,13 @@ use Rattle.sheet.specs.Tests.{all, any}
 use Rattle.sheet.specs.Refusals.{number_of, place_of, first_refusal}
 use Rattle.sheet.specs.Layout.{in_bytes, unit_row, rows, sheet_of}
 use Rattle.sheet.specs.Check.{header_tests, row_tests, field_rules, row_rules, sheet_rules}
+use Rattle.sheet.specs.Chains.{replies}
 use Rattle.sheet.specs.Cases.Samples.{put, zeros, unit_bytes, joined, sheet_bytes, heated}
 use Rattle.month.specs.Weights.{all_metered, metered_sum, has_pool, total_area, unread_weight, unread_weights, pool_weight, reading_sum, read_area, read_surface, area_weight, surface_weight, read_weight, read_weights, units_of_class, litres_of_class1, persons_of_class2, water_weight}
 use Rattle.month.specs.Steps.{split_by, in_unit_order, unit_by_unit, hot_water, space_heat, heat_parts, pool_shares, read_shares, heat, common_heat, water_parts, water, common_water, energies}
 use Rattle.month.specs.Month.{hot_water_wh, space_heat_wh, zero_water_divisor, zero_divisor, month_rules, bill_cents, costs, four_and_four, statement_of, month_of, settle_rules, settled_sheet}
 use Rattle.yearbook.specs.Calls.{Call, post, replace, withdraw, year, Reply, accepted, refused, totals}
-use Rattle.yearbook.specs.PlainBook.{opened_plain, stands, sheets_of, now_holds, not_kept, brought, withdrawn, number_in, unit_sums, told, called, plain_replies}
+use Rattle.yearbook.specs.PlainBook.{opened_plain, stands, sheets_of, now_holds, not_kept, brought, withdrawn, number_in, unit_sums, told, called}
 
 -- ---- sheets in bytes
 -- a unit of heated area p; a sheet without hot water at a price of 10,000
@@ -94,9 +95,9 @@ run =
     ∷ year 1 gets gives 2 (788 ∷ 0 ∷ 0 ∷ 0 ∷ 9 ∷ 0 ∷ 0 ∷ 0 ∷ [])
     ∷ []
 
-pub run-right : map answer_of (plain_replies (opened_plain (overcharged 6)) (map call_of run)) ≡ map expected run
+pub run-right : map answer_of (replies called (opened_plain (overcharged 6)) (map call_of run)) ≡ map expected run
 unfolding run by_area by_risers overcharged one_unit other_id unit_bytes joined sheet_bytes in_bytes
-    opened_plain stands sheets_of now_holds not_kept brought withdrawn number_in unit_sums told called plain_replies
+    opened_plain stands sheets_of now_holds not_kept brought withdrawn number_in unit_sums told called replies
     shares_by all any first_refusal unit_row rows sheet_of header_tests row_tests field_rules row_rules sheet_rules
     all_metered metered_sum has_pool total_area unread_weight unread_weights pool_weight reading_sum read_area read_surface area_weight surface_weight read_weight read_weights units_of_class litres_of_class1 persons_of_class2 water_weight
     split_by in_unit_order unit_by_unit hot_water space_heat heat_parts pool_shares read_shares heat common_heat water_parts water common_water energies

@@ -1,0 +1,4 @@
+-- Computed cases: fees, calls, a run.
+pub mod Fees
+pub mod Answers
+pub mod Runs

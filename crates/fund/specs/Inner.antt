@@ -1,0 +1,2 @@
+-- What inner functions promise each other. Nothing in here need be believed.
+pub mod Fees
