@@ -49,7 +49,7 @@ static void answers(void)
     EXPECT(HEATCOST_PLACE(256 * 159 + 20), 159);
     EXPECT(HEATCOST_PLACE(256 * 44 + 4), 44);
     EXPECT(strcmp(heatcost_text(256 * 1760 + 22), heatcost_text(HEATCOST_BAD_GROUP)), 0);
-    EXPECT(strcmp(heatcost_text(HEATCOST_BAD_GROUP + 1), "no such number"), 0);
+    EXPECT(strcmp(heatcost_text(HEATCOST_FUND_FULL + 1), "no such number"), 0);
     EXPECT(strcmp(heatcost_text(255), "no such number"), 0);
 }
 
@@ -140,10 +140,41 @@ static void charges(void)
     EXPECT(heatcost_fixed_charges(sheet, sizeof sheet, 3, 1, 2, 3, list, NUMBERS), 256 * 44 + 4);
 }
 
+/* A fund from 0 on: half a cent, the rate's limit, payments, a full fund, and the sheet before the rate. */
+static void fund(void)
+{
+    enum { MOST = HEATCOST_MAX_RATE };
+    uint8_t sheet[HEATCOST_SHEET_LEN(1)];
+    uint64_t balance = 0;
+    make_sheet(sheet, 0);
+    EXPECT(heatcost_collect_fees(&balance, sheet, sizeof sheet, 5000), HEATCOST_ACCEPTED);
+    EXPECT(heatcost_collect_fees(&balance, sheet, sizeof sheet, 4999), HEATCOST_ACCEPTED);
+    EXPECT(balance, 1);
+    EXPECT(heatcost_collect_fees(&balance, sheet, sizeof sheet, MOST), HEATCOST_ACCEPTED);
+    EXPECT(balance, 101);
+    EXPECT(heatcost_collect_fees(&balance, sheet, sizeof sheet, MOST + 1), HEATCOST_RATE_TOO_HIGH);
+    EXPECT(heatcost_pay_out(&balance, 102), HEATCOST_FUND_SHORT);
+    EXPECT(balance, 101);
+    EXPECT(heatcost_pay_out(&balance, 101), HEATCOST_ACCEPTED);
+    EXPECT(heatcost_pay_out(&balance, 0), HEATCOST_ACCEPTED);
+    EXPECT(balance, 0);
+    balance = (uint64_t)-101;
+    EXPECT(heatcost_collect_fees(&balance, sheet, sizeof sheet, MOST), HEATCOST_ACCEPTED);
+    EXPECT(balance, (uint64_t)-1);
+    EXPECT(heatcost_collect_fees(&balance, sheet, sizeof sheet, 5000), HEATCOST_FUND_FULL);
+    EXPECT(heatcost_collect_fees(&balance, sheet, sizeof sheet, MOST + 1), HEATCOST_RATE_TOO_HIGH);
+    sheet[10] = sheet[24] = 1; /* source 1, and more hot water than the meter shows */
+    EXPECT(heatcost_collect_fees(&balance, sheet, sizeof sheet, MOST + 1), HEATCOST_HOT_WATER_EXCEEDS_METER);
+    sheet[44] = 1; /* the last hot water reading, with source 1 */
+    EXPECT(heatcost_collect_fees(&balance, sheet, sizeof sheet, MOST + 1), 256 * 44 + 4);
+    EXPECT(balance, (uint64_t)-1);
+}
+
 /* Every list as NULL with a count of 0. */
 static void nulls(void)
 {
     uint8_t sheet[HEATCOST_SHEET_LEN(1)];
+    uint64_t balance = 0;
     heatcost_building nothing = {0, 0}, whole = {0, HEATCOST_SHEET_LEN(1)};
     make_sheet(sheet, 0);
     EXPECT(heatcost_settle(NULL, 0, NULL, 0), HEATCOST_TOO_SHORT);
@@ -154,6 +185,7 @@ static void nulls(void)
     EXPECT(heatcost_settle_group(sheet, sizeof sheet, &whole, 1, 0, NULL, 0), HEATCOST_BUFFER_LENGTH);
     EXPECT(heatcost_fixed_charges(NULL, 0, 2, 1, 2, 3, NULL, 0), HEATCOST_TOO_SHORT);
     EXPECT(heatcost_fixed_charges(sheet, sizeof sheet, 2, 1, 2, 3, NULL, 0), HEATCOST_BUFFER_LENGTH);
+    EXPECT(heatcost_collect_fees(&balance, NULL, 0, 0), HEATCOST_TOO_SHORT);
     EXPECT(heatcost_print(NULL, 0, NULL, 0), strlen("refused 1 0\n"));
     EXPECT(heatcost_print(sheet, sizeof sheet, NULL, 0), strlen("month 1 units 1 wh 0 cents 0\n0 0 0 0 0 0 0 0 0\n"));
     EXPECT(heatcost_write_record(NULL, 0, NULL, 0), HEATCOST_TOO_SHORT);
@@ -243,6 +275,7 @@ int main(void)
     places();
     groups();
     charges();
+    fund();
     nulls();
     nulls_of_a_year();
     threads();

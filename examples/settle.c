@@ -1,6 +1,7 @@
 /* From plain fields to a statement: case A of docs/FORMAT.md as a sheet's bytes, settled, and printed as the program
- * `statement` prints it; its fixed part, divided by area beside the statement, and by load, which no unit has; then the
- * same month with a fault in its third row, with two fields that clash there, and with a fault in the header. */
+ * `statement` prints it; its fixed part, divided by area beside the statement, and by load, which no unit has; its fees
+ * into an efficiency fund, with one unit without a device, and payments out of the fund; then the same month with a
+ * fault in its third row, with two fields that clash there, and with a fault in the header. */
 #include <stdio.h>
 
 #include "heatcost.h"
@@ -139,12 +140,33 @@ static void divide_and_print(const struct month *month, uint32_t model)
                (unsigned long)charges[3 * i + 1], (unsigned long)charges[3 * i + 2]);
 }
 
+static void print_fund(const uint64_t *fund, uint32_t answer)
+{
+    if (answer != HEATCOST_ACCEPTED)
+        print_refusal(answer);
+    printf("fund %lu\n", (unsigned long)*fund);
+}
+
+/* A month's fees at 0.50 EUR per m2 into a new fund, then 20 EUR out of it, and 6, which it no longer has. */
+static void collect_and_print(const struct month *month)
+{
+    uint8_t sheet[HEATCOST_SHEET_LEN(UNITS)];
+    uint64_t fund = 0;
+    put_sheet(sheet, month);
+    print_fund(&fund, heatcost_collect_fees(&fund, sheet, sizeof sheet, 50000));
+    print_fund(&fund, heatcost_pay_out(&fund, 2000));
+    print_fund(&fund, heatcost_pay_out(&fund, 600));
+}
+
 int main(void)
 {
-    struct month faulty = case_a;
+    struct month faulty = case_a, no_device = case_a;
     settle_and_print(&case_a);
     divide_and_print(&case_a, HEATCOST_MODEL_2S);
     divide_and_print(&case_a, HEATCOST_MODEL_1S);
+    no_device.units[0].status = 1;
+    no_device.units[0].reading = 0;
+    collect_and_print(&no_device);
     faulty.units[2].location_factor = 0;
     settle_and_print(&faulty);
     faulty.units[2].location_factor = 1000;

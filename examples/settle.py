@@ -1,6 +1,7 @@
 """From plain fields to a statement: case A of docs/FORMAT.md as a sheet's bytes, settled, and printed as the program
-`statement` prints it; its fixed part, divided by area beside the statement, and by load, which no unit has; then the
-same month with a fault in its third row, with two fields that clash there, and with a fault in the header.
+`statement` prints it; its fixed part, divided by area beside the statement, and by load, which no unit has; its fees
+into an efficiency fund, with one unit without a device, and payments out of the fund; then the same month with a fault
+in its third row, with two fields that clash there, and with a fault in the header.
 
 The argument is the library as a shared object.
 """
@@ -102,6 +103,21 @@ def divide_and_print(library, month, model):
         print(fields["id"], "fixed", *charges[3 * i : 3 * i + 3])
 
 
+def print_fund(fund, answer):
+    if answer != 0:
+        print_refusal(answer)
+    print("fund", fund.value)
+
+
+def collect_and_print(library, month):
+    """A month's fees at 0.50 EUR per m2 into a new fund, then 20 EUR out of it, and 6, which it no longer has."""
+    sheet = sheet_bytes(month)
+    fund = ctypes.c_uint64(0)
+    print_fund(fund, library.heatcost_collect_fees(fund, sheet, len(sheet), 50_000))
+    print_fund(fund, library.heatcost_pay_out(fund, 2000))
+    print_fund(fund, library.heatcost_pay_out(fund, 600))
+
+
 def main(path):
     library = ctypes.CDLL(path)
     sheet, numbers = [ctypes.c_char_p, ctypes.c_size_t], [ctypes.POINTER(ctypes.c_uint32), ctypes.c_size_t]
@@ -109,9 +125,16 @@ def main(path):
     library.heatcost_settle.argtypes = sheet + numbers
     library.heatcost_fixed_charges.restype = ctypes.c_uint32
     library.heatcost_fixed_charges.argtypes = sheet + [ctypes.c_uint32] * 4 + numbers
+    fund = [ctypes.POINTER(ctypes.c_uint64)]
+    library.heatcost_collect_fees.restype = ctypes.c_uint32
+    library.heatcost_collect_fees.argtypes = fund + sheet + [ctypes.c_uint32]
+    library.heatcost_pay_out.restype = ctypes.c_uint32
+    library.heatcost_pay_out.argtypes = fund + [ctypes.c_uint64]
     settle_and_print(library, CASE_A)
     divide_and_print(library, CASE_A, 2)
     divide_and_print(library, CASE_A, 1)
+    first, *others = CASE_A["units"]
+    collect_and_print(library, CASE_A | dict(units=[first | dict(status=1, reading=0)] + others))
     *others, third = CASE_A["units"]
     settle_and_print(library, CASE_A | dict(units=others + [third | dict(location_factor=0)]))
     # Not read, but with a reading.

@@ -9,7 +9,8 @@
  * Lists. A list is a pointer and the count of its elements, which must be there; what they hold is free. The pointer
  * has the alignment of its type; with a count of 0 it isn't used and may be NULL. Lists that a call only writes
  * (statement, charges, record, text, totals, book and sums at opening) need no values beforehand. The lists of one call
- * must not overlap: a record can't be built in place around its own sheet.
+ * must not overlap: a record can't be built in place around its own sheet. A fund is one number behind a pointer, with
+ * the alignment of its type and never NULL, and lies outside the sheet.
  *
  * Answers. A uint64_t is a length. A uint32_t is 0 for accepted, else the refusal's number + 256 * its place: for 4 the
  * first wrong header field's byte in the sheet, in a record too, or 0 where it is an amount or the model of a call for
@@ -17,11 +18,11 @@
  * 20, has its place raised by 160 * the building's place in the list, from 0: that is place / HEATCOST_MAX_UNITS, and
  * the remainder is the row or byte. Refusals are tested in the order that stands with the call, and the first that
  * holds is the answer. 6, 20 and 7 go row by row: in a row field by field, at each field first 6, then 20; after its
- * fields 7. So 20 stands beside 6, before 8 to 12. A refused call leaves every list, book and sums too, as it was.
- * Printing is never refused: a refusal has a text too.
+ * fields 7. So 20 stands beside 6, before 8 to 12. A refused call leaves every list, book and sums too, and every
+ * fund as it was. Printing is never refused: a refusal has a text too.
  *
  * Threads. Nothing is kept between calls, and the library has no data that it writes. Calls may run side by side as
- * long as no list that one of them writes is used by another.
+ * long as no list or fund that one of them writes is used by another.
  *
  * Rules. Settling, alone or in a group, dividing charges, printing, writing a record, posting and replacing go by the
  * newest rules, those of archive version 3: wherever something is divided, what rounding leaves goes to the largest
@@ -30,9 +31,9 @@
  *
  * Memory. No call uses the heap: memcpy and memset are all that the library needs from outside (`nm -u`). A call takes
  * at most HEATCOST_STACK bytes of stack: settling 18,100, a group 20,000, charges 4,900; printing, writing or reading a
- * record, posting and replacing 23,400; withdrawing 5,300; opening and the year call 500. `compare/run stack` measures
- * this on a painted stack. The caller's own frames come on top, and what the system needs: a thread's own block, a
- * first lookup of memcpy or memset.
+ * record, posting and replacing 23,400; withdrawing 5,300; opening, the year call and the calls on a fund 500.
+ * `compare/run stack` measures this on a painted stack. The caller's own frames come on top, and what the system needs:
+ * a thread's own block, a first lookup of memcpy or memset.
  */
 #ifndef HEATCOST_H
 #define HEATCOST_H
@@ -70,6 +71,9 @@
 #define HEATCOST_MODEL_1S 1
 #define HEATCOST_MODEL_2S 2
 
+/* The highest rate of fees, in thousandths of a cent per m2. */
+#define HEATCOST_MAX_RATE 1000000
+
 /* The two parts of an answer. */
 #define HEATCOST_NUMBER(answer) ((answer) % 256u)
 #define HEATCOST_PLACE(answer) ((answer) / 256u)
@@ -97,7 +101,10 @@ enum heatcost_number {
     HEATCOST_BAD_YEAR_SUMS = 19,
     HEATCOST_FIELD_CONFLICT = 20,
     HEATCOST_NEGATIVE_COMMON_HEAT = 21,
-    HEATCOST_BAD_GROUP = 22
+    HEATCOST_BAD_GROUP = 22,
+    HEATCOST_FUND_SHORT = 23,
+    HEATCOST_RATE_TOO_HIGH = 24,
+    HEATCOST_FUND_FULL = 25
 };
 
 /* One line of text for a number, or for a whole answer. */
@@ -150,6 +157,12 @@ static inline const char *heatcost_text(uint32_t number)
         return "a building's share of the difference is below 0 by more than its common heat";
     case HEATCOST_BAD_GROUP:
         return "not a group: count, shared reading or a sheet's bytes out of range, or a month or price differs";
+    case HEATCOST_FUND_SHORT:
+        return "the payment is more than the fund's balance";
+    case HEATCOST_RATE_TOO_HIGH:
+        return "the rate is over 1,000,000 thousandths of a cent per m2";
+    case HEATCOST_FUND_FULL:
+        return "with these fees the fund's balance would pass 64 bits";
     default:
         return "no such number";
     }
@@ -196,6 +209,22 @@ uint32_t heatcost_settle_group(const uint8_t *sheets, size_t sheets_len, const h
  * 0, also with nothing to divide; 13 unless charges_len is HEATCOST_CHARGES_LEN(n). */
 uint32_t heatcost_fixed_charges(const uint8_t *sheet, size_t sheet_len, uint32_t model, uint32_t power,
                                 uint32_t buyer_fee, uint32_t supplier_fee, uint32_t *charges, size_t charges_len);
+
+/* The efficiency fund is a number that the caller keeps: its balance in cents. A new one holds 0; any 64-bit number
+ * is taken. Each call gets it as the last one left it, and nobody else writes it meanwhile: then from 0 on the balance
+ * is the accepted fees less the accepted payments. No record, text or year book holds it. */
+
+/* Takes a month's fees into the fund. rate is in thousandths of a cent per m2, at most HEATCOST_MAX_RATE; 50000 is 0.50
+ * EUR. Units that are settled without readings pay: in models 1 and 2 all, in models 3 to 5 those of status 1 and 4. A
+ * unit's fee in cents is p * rate / 10000, p its area in 0.1 m2, rounded half up by itself. The balance grows by the
+ * sum of the fees.
+ *
+ * Refusals: 1 to 12 with 20, as heatcost_settle has them; 24 for a rate over its limit, whoever pays; 25 when the
+ * balance would pass 64 bits. */
+uint32_t heatcost_collect_fees(uint64_t *fund, const uint8_t *sheet, size_t sheet_len, uint32_t rate);
+
+/* Pays an amount in cents out of the fund: 0, or up to the whole balance. Refusal 23 for more. */
+uint32_t heatcost_pay_out(uint64_t *fund, uint64_t amount);
 
 /* Prints a sheet: its month, or the line of its refusal, 1 to 12 with 20 (docs/FORMAT.md, "The printed form"). Answers
  * how many bytes that text has, no zero byte among them: at most HEATCOST_PRINT_LEN(n), refused at most

@@ -1,9 +1,9 @@
 //! Random calls of request 2026-05.
 
 use crate::charges::{fixed_charges, weights, MAX_CHARGE, MODEL_1S, MODEL_2S};
-use crate::damage::{put, unit_count};
-use crate::faults::spoil;
-use crate::group_faults::spoil_sheet;
+use crate::damage::unit_count;
+use crate::faults::{ordered_sheet_faults, OrderedFault};
+use crate::group_faults::faulty_bytes;
 use crate::refusal::Refusal;
 use crate::rng::Rng;
 use crate::samples::random_sheet;
@@ -74,13 +74,11 @@ pub fn random_charge_call(rng: &mut Rng) -> ChargeCall {
             unit.heat_load_w = 0;
         }
     }
-    let mut bytes = build_sheet(&sheet);
-    if faults.contains(&Fault::Sheet) {
-        match rng.below(5) {
-            0 | 1 => spoil(rng, &mut bytes),
-            _ => bytes = spoil_sheet(rng, &sheet),
-        }
-    }
+    let bytes = if faults.contains(&Fault::Sheet) {
+        faulty_bytes(rng, &sheet)
+    } else {
+        build_sheet(&sheet)
+    };
     let amounts = random_amounts(rng, &weights(&sheet, model));
     let mut call = ChargeCall::of(bytes, model, amounts);
     for fault in faults {
@@ -155,27 +153,14 @@ fn other_len(rng: &mut Rng, right: u64) -> usize {
     other as usize
 }
 
-/// A fault, and the number and place that refuse a call which has it alone.
-pub type OrderedFault = (fn(&mut ChargeCall), (u32, u32));
-
 /// Faults of a call by area on case A, which has no loads; each is refused
 /// before those below it.
-pub fn ordered_faults() -> [OrderedFault; 12] {
-    fn set(call: &mut ChargeCall, byte: usize, value: u64) {
-        put(&mut call.sheet, (byte, 1), value);
-    }
-    [
-        (|call| call.sheet.truncate(47), (1, 0)),
-        (|call| set(call, 3, 1), (2, 0)),
-        (|call| set(call, 4, 2), (3, 0)),
-        (|call| set(call, 7, 6), (4, 7)),
-        (|call| set(call, 44, 1), (4, 44)),
-        (|call| call.sheet.push(0), (5, 0)),
-        (|call| set(call, 80 + 28, 1), (20, 1)),
-        (|call| set(call, 112 + 30, 1), (6, 2)),
-        (|call| set(call, 112, 12), (7, 2)),
-        (|call| call.amounts[1] = MAX_CHARGE + 1, (4, 0)),
-        (|call| call.model = MODEL_1S, (9, 0)),
-        (|call| call.list_len = 24, (13, 0)),
-    ]
+pub fn ordered_faults() -> Vec<OrderedFault<ChargeCall>> {
+    let mut faults = ordered_sheet_faults(|call: &mut ChargeCall| &mut call.sheet);
+    faults.extend::<[OrderedFault<ChargeCall>; 3]>([
+        (Box::new(|call| call.amounts[1] = MAX_CHARGE + 1), (4, 0)),
+        (Box::new(|call| call.model = MODEL_1S), (9, 0)),
+        (Box::new(|call| call.list_len = 24), (13, 0)),
+    ]);
+    faults
 }

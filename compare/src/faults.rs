@@ -1,5 +1,6 @@
 //! Sheets with fields past the ends of their ranges, one or two at a time, so
-//! that it shows which is tested first (request 2026-03).
+//! that it shows which is tested first (request 2026-03); and faults in the order
+//! of their refusals.
 
 use crate::damage::{put, HEADER_FIELDS};
 use crate::ranges::{Field, Range};
@@ -66,6 +67,35 @@ fn past_an_end(rng: &mut Rng, range: Range) -> u64 {
         1 => rng.between(highest + 1, 2 * highest + 60_000),
         _ => highest + 1,
     }
+}
+
+/// What spoils a call, and the number and place that refuse a call which has this
+/// fault alone.
+pub type OrderedFault<Call> = (Box<dyn Fn(&mut Call)>, (u32, u32));
+
+/// The same of a sheet's bytes.
+type SheetFault = (fn(&mut Vec<u8>), (u32, u32));
+
+/// Faults of case A, or of case D, in a call with its bytes: 1 to 7 and 20, each
+/// refused before those below it.
+pub fn ordered_sheet_faults<Call: 'static>(
+    sheet: fn(&mut Call) -> &mut Vec<u8>,
+) -> Vec<OrderedFault<Call>> {
+    let faults: [SheetFault; 9] = [
+        (|sheet| sheet.truncate(47), (1, 0)),
+        (|sheet| put(sheet, (3, 1), 1), (2, 0)),
+        (|sheet| put(sheet, (4, 1), 2), (3, 0)),
+        (|sheet| put(sheet, (7, 1), 6), (4, 7)),
+        (|sheet| put(sheet, (44, 1), 1), (4, 44)),
+        (|sheet| sheet.push(0), (5, 0)),
+        (|sheet| put(sheet, (80 + 28, 1), 1), (20, 1)),
+        (|sheet| put(sheet, (112 + 30, 1), 1), (6, 2)),
+        (|sheet| put(sheet, (112, 1), 12), (7, 2)),
+    ];
+    let in_call = |(spoil, answer): SheetFault| -> OrderedFault<Call> {
+        (Box::new(move |call| spoil(sheet(call))), answer)
+    };
+    faults.map(in_call).into()
 }
 
 fn one_of<T: Copy>(rng: &mut Rng, list: &[T]) -> T {

@@ -107,6 +107,16 @@ fn spoil_place(rng: &mut Rng, group: &mut Group) {
     }
 }
 
+/// A sheet's bytes with fields past their ranges, or refused in any way.
+pub fn faulty_bytes(rng: &mut Rng, sheet: &Sheet) -> Vec<u8> {
+    if rng.below(5) > 1 {
+        return spoil_sheet(rng, sheet);
+    }
+    let mut bytes = build_sheet(sheet);
+    spoil(rng, &mut bytes);
+    bytes
+}
+
 /// A refused sheet, made from one that settles; now and then it settles still.
 pub fn spoil_sheet(rng: &mut Rng, sheet: &Sheet) -> Vec<u8> {
     let mut sheet = sheet.clone();

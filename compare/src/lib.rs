@@ -1,5 +1,5 @@
 //! An independent implementation of document 01 in plain Rust, with requests
-//! 2026-01 to 2026-06.
+//! 2026-01 to 2026-07.
 //!
 //! It was written from the documents alone and shares no code with the product.
 //! Nothing here is proved. It makes the stored vectors of the gate, and it is
@@ -44,6 +44,11 @@
 //!   and its three amounts (32 bits each: power, buyer's fee, supplier's fee), the
 //!   count of numbers in the lent list (16 bits, at most 481), and the sheet: the
 //!   bytes that are left. List and line are as for groups.
+//! - `cargo run --release --bin fund_vectors FOLDER`: request 2026-07. A vector
+//!   is a call on a fund: its kind (8 bits: 0 collect, 1 pay out) and the balance
+//!   before it (64 bits); to collect the rate (32 bits), the sheet's length (16
+//!   bits, at most 5,200) and the sheet; to pay out the amount (64 bits). A line is
+//!   number and place, then the balance afterwards.
 //!
 //! All numbers in `stdin` are little-endian. `cargo test --release` runs the
 //! document's cases and the random checks. `compare/run` compares the library
@@ -61,11 +66,14 @@ pub mod damage;
 pub mod edges;
 pub mod fast;
 pub mod faults;
+pub mod fund;
+pub mod fund_calls;
 pub mod group;
 pub mod group_faults;
 pub mod group_laws;
 pub mod groups;
 pub mod plain_book;
+pub mod plain_fund;
 pub mod portions;
 pub mod print;
 pub mod ranges;

@@ -1,5 +1,5 @@
-//! Document 01, "Refused sheets and calls", with requests 2026-02 to 2026-05:
-//! numbers and places.
+//! Document 01, "Refused sheets and calls", with requests 2026-02 to 2026-05 and
+//! 2026-07: numbers and places.
 
 /// A refusal's number, and its place: the row for 6, 7 and 20, the header
 /// field's byte in the sheet for 4, else 0, also for the 4 of an amount or model
@@ -55,6 +55,12 @@ pub const FIELD_CONFLICT: u32 = 20;
 pub const NEGATIVE_COMMON_HEAT: u32 = 21;
 /// group
 pub const BAD_GROUP: u32 = 22;
+/// fund short
+pub const FUND_SHORT: u32 = 23;
+/// rate
+pub const RATE_TOO_HIGH: u32 = 24;
+/// fund full
+pub const FUND_FULL: u32 = 25;
 
 /// A refusal at place 0.
 pub fn refuse<T>(number: u32) -> Result<T, Refusal> {

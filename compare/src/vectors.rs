@@ -1,7 +1,8 @@
-//! The stored vectors: their files, the form of a sheet vector, of a group and of
-//! charges, and the line for a list.
+//! The stored vectors: their files, the form of a sheet vector, of a group, of
+//! charges and of a call on a fund, and the line for a list.
 
 use crate::charge_calls::ChargeCall;
+use crate::fund_calls::FundCall;
 use crate::groups::Group;
 use crate::refusal::Refusal;
 use std::path::PathBuf;
@@ -75,4 +76,23 @@ pub fn charge_bytes(call: &ChargeCall) -> Vec<u8> {
     bytes.extend((call.list_len as u16).to_le_bytes());
     bytes.extend(&call.sheet);
     bytes
+}
+
+/// A call on a fund: its kind (8 bits) and the balance (64 bits); 0, to collect:
+/// rate (32 bits), the sheet's length (16 bits) and the sheet; 1, to pay out: the
+/// amount (64 bits).
+pub fn fund_bytes(call: &FundCall) -> Vec<u8> {
+    match call {
+        FundCall::Collect(call) => {
+            let mut bytes = vec![0];
+            bytes.extend(call.balance.to_le_bytes());
+            bytes.extend(call.rate.to_le_bytes());
+            bytes.extend(pack(std::slice::from_ref(&call.sheet)));
+            bytes
+        }
+        FundCall::Pay(call) => {
+            let numbers = [call.balance, call.amount].map(u64::to_le_bytes);
+            [&[1], numbers.as_flattened()].concat()
+        }
+    }
 }

@@ -5,6 +5,7 @@ use compare::charge_calls::{random_charge_call, ChargeCall};
 use compare::damage::{damaged_sheet, unit_count};
 use compare::edges::{border_sheet, sheet_at_an_end};
 use compare::faults::faulty_sheet;
+use compare::fund_calls::{random_fund_call, FundCall};
 use compare::groups::{random_group, Group};
 use compare::refusal::Refusal;
 use compare::rng::Rng;
@@ -210,6 +211,25 @@ fn fixed_charges() {
     }
     for number in [0, 1, 2, 3, 4, 5, 6, 7, 9, 13, 20] {
         assert!(answers[number] > 180, "few answers {number}: {answers:?}");
+    }
+}
+
+#[test]
+fn funds() {
+    let mut rng = Rng::new(38);
+    let mut answers = [0; 26];
+    for _ in 0..30_000 {
+        let call = random_fund_call(&mut rng);
+        let mut fund = call.balance();
+        let answer = match &call {
+            FundCall::Collect(call) => fast::fund::collect_fees(&mut fund, &call.sheet, call.rate),
+            FundCall::Pay(call) => fast::fund::pay_out(&mut fund, call.amount),
+        };
+        assert_eq!((answer, fund), call.run(), "{call:?}");
+        answers[answer.err().map_or(0, |refusal| refusal.number) as usize] += 1;
+    }
+    for number in (0..=12).chain([20, 23, 24, 25]) {
+        assert!(answers[number] > 80, "few answers {number}: {answers:?}");
     }
 }
 

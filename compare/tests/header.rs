@@ -4,6 +4,7 @@
 
 use compare::book::{BOOK_LEN, SUMS_LEN};
 use compare::charges::{MAX_CHARGE, MODEL_1S, MODEL_2S};
+use compare::fund::MAX_RATE;
 use compare::group::{Building, MAX_BUILDINGS};
 use compare::sheet::MAX_UNITS;
 use std::mem::{offset_of, size_of};
@@ -123,6 +124,7 @@ fn lengths_and_stack_are_the_programs() {
     assert_eq!(defined("HEATCOST_MAX_CHARGE"), MAX_CHARGE as usize);
     assert_eq!(defined("HEATCOST_MODEL_1S"), MODEL_1S as usize);
     assert_eq!(defined("HEATCOST_MODEL_2S"), MODEL_2S as usize);
+    assert_eq!(defined("HEATCOST_MAX_RATE"), MAX_RATE as usize);
     assert_eq!(defined("HEATCOST_TOTALS_LEN"), 9);
     let promised = format!(
         "const PROMISED: usize = {}_{:03};",
@@ -172,7 +174,7 @@ fn refusals() -> Vec<(usize, String, &'static str)> {
 fn numbers_names_and_texts_are_those_of_the_format() {
     let refusals = refusals();
     let numbers: Vec<usize> = refusals.iter().map(|refusal| refusal.0).collect();
-    assert_eq!(numbers, (1..=22).collect::<Vec<usize>>());
+    assert_eq!(numbers, (1..=25).collect::<Vec<usize>>());
     let mut members = vec!["HEATCOST_ACCEPTED = 0".to_string()];
     let mut cases = vec!["case HEATCOST_ACCEPTED: return \"accepted\";".to_string()];
     for (number, name, means) in refusals {

@@ -12,6 +12,8 @@ extern "C" {
         shared_wh: u64, statement: *mut u32, statement_len: usize) -> u32;
     fn heatcost_fixed_charges(sheet: *const u8, sheet_len: usize, model: u32, power: u32, buyer_fee: u32,
         supplier_fee: u32, charges: *mut u32, charges_len: usize) -> u32;
+    fn heatcost_collect_fees(fund: *mut u64, sheet: *const u8, sheet_len: usize, rate: u32) -> u32;
+    fn heatcost_pay_out(fund: *mut u64, amount: u64) -> u32;
     fn heatcost_print(sheet: *const u8, sheet_len: usize, text: *mut u8, text_len: usize) -> u64;
     fn heatcost_write_record(sheet: *const u8, sheet_len: usize, record: *mut u8, record_len: usize) -> u32;
     fn heatcost_read_record(record: *const u8, record_len: usize) -> u32;
@@ -75,6 +77,14 @@ pub fn fixed_charges(sheet: &[u8], model: u32, amounts: [u32; 3], list: &mut [u3
             list.len(),
         )
     }
+}
+
+pub fn collect_fees(fund: &mut u64, sheet: &[u8], rate: u32) -> u32 {
+    unsafe { heatcost_collect_fees(fund, sheet.as_ptr(), sheet.len(), rate) }
+}
+
+pub fn pay_out(fund: &mut u64, amount: u64) -> u32 {
+    unsafe { heatcost_pay_out(fund, amount) }
 }
 
 pub fn print(sheet: &[u8], list: &mut [u8]) -> u64 {

@@ -1,10 +1,11 @@
-//! One round: settle, write and read, sometimes a book, a group or charges, and
-//! print.
+//! One round: settle, write and read, sometimes a book, a group, charges or a
+//! fund, and print.
 
 use crate::books::compare_book;
 use crate::calls;
 use crate::charges::compare_charges;
 use crate::difference::{same, Compared};
+use crate::funds::{compare_fund_call, compare_new_fund};
 use crate::groups::compare_group;
 use crate::inputs::{list_len, random_bytes, record_to_read};
 use crate::side::Side;
@@ -21,6 +22,10 @@ const ROUNDS_A_BOOK: u64 = 125;
 const ROUNDS_A_GROUP: u64 = 6;
 /// Charges are one sheet's, but are to meet each of its refusals too.
 const ROUNDS_A_CHARGE: u64 = 6;
+/// So are the fees of a fund, with balances of their own; a quarter are payments.
+const ROUNDS_A_FUND_CALL: u64 = 4;
+/// A new fund has some forty calls of its own.
+const ROUNDS_A_NEW_FUND: u64 = 250;
 
 /// The rounds have numbers of their own, so that each can be run alone.
 pub fn compare_round(side: &Side, seed: u64, round: u64, tally: &mut Tally) -> Compared<()> {
@@ -38,6 +43,12 @@ pub fn compare_round(side: &Side, seed: u64, round: u64, tally: &mut Tally) -> C
     }
     if round.is_multiple_of(ROUNDS_A_CHARGE) {
         compare_charges(side, &mut rng, tally)?;
+    }
+    if round.is_multiple_of(ROUNDS_A_FUND_CALL) {
+        compare_fund_call(side, &mut rng, tally)?;
+    }
+    if round.is_multiple_of(ROUNDS_A_NEW_FUND) {
+        compare_new_fund(side, &mut rng, tally)?;
     }
     compare_print(side, &mut rng, &sheet)
 }

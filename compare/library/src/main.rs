@@ -16,6 +16,8 @@ mod calls;
 mod charges;
 mod comparing;
 mod difference;
+mod fund_ways;
+mod funds;
 mod groups;
 mod inputs;
 mod mutants;

@@ -8,6 +8,8 @@ pub struct Side {
     pub settle: fn(&[u8], &mut [u32]) -> u32,
     pub settle_group: fn(&[u8], &[Building], u64, &mut [u32]) -> u32,
     pub fixed_charges: fn(&[u8], u32, [u32; 3], &mut [u32]) -> u32,
+    pub collect_fees: fn(&mut u64, &[u8], u32) -> u32,
+    pub pay_out: fn(&mut u64, u64) -> u32,
     pub print: fn(&[u8], &mut [u8]) -> u64,
     pub write_record: fn(&[u8], &mut [u8]) -> u32,
     /// The answer and the length of the sheet's part.
@@ -35,7 +37,7 @@ pub fn answer<T>(result: &Result<T, Refusal>) -> u32 {
 /// The side that a crate with the plain form's modules makes.
 macro_rules! side {
     ($form:ident) => {{
-        use $form::{book, charges, group, print, record, refusal::Refusal, settle};
+        use $form::{book, charges, fund, group, print, record, refusal::Refusal, settle};
 
         fn answer(result: Result<(), Refusal>) -> u32 {
             result.map_or_else(|refusal| number(refusal.number, refusal.place), |()| 0)
@@ -69,6 +71,8 @@ macro_rules! side {
             fixed_charges: |sheet, model, amounts, list| {
                 answer(charges::fixed_charges_into(sheet, model, amounts, list))
             },
+            collect_fees: |fund, sheet, rate| answer(fund::collect_fees(fund, sheet, rate)),
+            pay_out: |fund, amount| answer(fund::pay_out(fund, amount)),
             print: |sheet, list| print::print_into(sheet, list) as u64,
             write_record: |sheet, list| answer(record::write_record(sheet, list)),
             read_record: |bytes| {

@@ -81,6 +81,11 @@ pub fn measure() -> bool {
             }),
         ),
         ("fixed_charges", charge_need()),
+        ("collect_fees", collect_need(&sheets)),
+        (
+            "pay_out",
+            most(&sheets, |_| drop_answer(calls::pay_out(&mut 7, 5))),
+        ),
         (
             "print",
             most(&sheets, |s| drop_answer(calls::print(s, &mut text) as u32)),
@@ -131,6 +136,14 @@ fn charge_need() -> usize {
         for model in [1, 2] {
             drop_answer(calls::fixed_charges(s, model, [99_999_999; 3], list));
         }
+    })
+}
+
+/// A month's fees at the highest rate.
+fn collect_need(sheets: &[Vec<u8>]) -> usize {
+    let mut fund = 0;
+    most(sheets, |s| {
+        drop_answer(calls::collect_fees(&mut fund, s, 1_000_000))
     })
 }
 

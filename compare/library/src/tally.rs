@@ -4,18 +4,24 @@
 use crate::ways::Way;
 use compare::ties::of_sheet;
 
-pub const CALLS: [&str; 10] = [
+pub const CALLS: [&str; 12] = [
     "settle", "write", "read", "open", "post", "replace", "withdraw", "year", "group", "charges",
+    "collect", "pay",
 ];
 /// The numbers of answers, 0 for accepted.
-const NUMBERS: usize = 23;
+const NUMBERS: usize = 26;
 /// The calls whose answers are looked for by themselves, and these.
-const NUMBERS_OF: [(&str, &[usize]); 2] = [
+const NUMBERS_OF: [(&str, &[usize]); 4] = [
     (
         "group",
         &[0, 1, 2, 3, 4, 5, 6, 7, 8, 9, 10, 11, 12, 13, 20, 21, 22],
     ),
     ("charges", &[0, 1, 2, 3, 4, 5, 6, 7, 9, 13, 20]),
+    (
+        "collect",
+        &[0, 1, 2, 3, 4, 5, 6, 7, 8, 9, 10, 11, 12, 20, 24, 25],
+    ),
+    ("pay", &[0, 23]),
 ];
 /// An answer seen less often than this in a million rounds is a gap.
 const SELDOM: u64 = 1_000;

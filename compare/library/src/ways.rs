@@ -3,8 +3,10 @@
 //! what is wrong with the group, and an accepted group by its difference
 //! (request 2026-04); 4, 9, 13 and accepted charges by the call (request
 //! 2026-05); accepted calls by the divisions in which the larger weight decides,
-//! and records by their version where it does (request 2026-06).
+//! and records by their version where it does (request 2026-06); calls on a fund
+//! (request 2026-07, fund_ways.rs).
 
+use crate::fund_ways::FundWay;
 use compare::book::SUMS_LEN;
 use compare::charge_calls::ChargeCall;
 use compare::charges::{MAX_CHARGE, MODEL_1S};
@@ -59,6 +61,7 @@ pub enum Way {
     VersionTie(RuleSet),
     /// The same with the numbers of the other rule for ties.
     VersionOtherTie(RuleSet),
+    Fund(FundWay),
 }
 
 const OF_MONTHS: &[&str] = &["settle", "write", "post", "replace", "group"];
@@ -105,6 +108,7 @@ impl Way {
         ways.push(Way::DeficitTie);
         ways.extend(RuleSet::ALL.map(Way::VersionTie));
         ways.extend(RuleSet::ALL.map(Way::VersionOtherTie));
+        ways.extend(FundWay::all().map(Way::Fund));
         ways
     }
 
@@ -140,16 +144,17 @@ impl Way {
             Way::DeficitTie => "0 tie, below 0".to_string(),
             Way::VersionTie(rules) => format!("0 tie, {rules:?}"),
             Way::VersionOtherTie(rules) => format!("14 tie, {rules:?}"),
+            Way::Fund(way) => way.name(),
         }
     }
 
     /// A way seen less often than this in a million rounds, in a call that has
     /// it, is a gap.
     pub fn seldom(self) -> u64 {
-        if OF_GROUPS.contains(&self) || OF_CHARGES.contains(&self) {
-            1_000
-        } else {
-            100
+        match self {
+            Way::Fund(_) => 1_000,
+            way if OF_GROUPS.contains(&way) || OF_CHARGES.contains(&way) => 1_000,
+            _ => 100,
         }
     }
 
@@ -157,7 +162,7 @@ impl Way {
     pub fn calls(self) -> &'static [&'static str] {
         match self {
             Way::Header(_) | Way::Clash(_) => &[
-                "settle", "write", "read", "open", "post", "replace", "group", "charges",
+                "settle", "write", "read", "open", "post", "replace", "group", "charges", "collect",
             ],
             Way::Length => &["open", "post", "replace", "withdraw", "year"],
             Way::Below => &["replace", "withdraw"],
@@ -167,6 +172,7 @@ impl Way {
             Way::Tie(division) if division.is_of_month() => OF_MONTHS,
             Way::VersionTie(_) | Way::VersionOtherTie(_) => &["read"],
             way if OF_CHARGES.contains(&way) => &["charges"],
+            Way::Fund(way) => way.calls(),
             _ => &["group"],
         }
     }

@@ -5,6 +5,7 @@
 pub mod book;
 pub mod charges;
 pub mod dividing;
+pub mod fund;
 pub mod group;
 pub mod header;
 pub mod month;

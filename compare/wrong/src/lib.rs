@@ -1,5 +1,5 @@
 //! Plausible and wrong readings of document 01 and of requests 2026-01 to
-//! 2026-06, one at a time in force.
+//! 2026-07, one at a time in force.
 //!
 //! The plain form's modules (`compare/src`) stand here as copies, made by
 //! `build.rs`: an edit (`edits/`) puts a call of `forms` at each spot where a

@@ -6,6 +6,7 @@ use compare::charge_calls::random_charge_call;
 use compare::damage::damaged_sheet;
 use compare::edges::{border_sheet, sheet_at_an_end};
 use compare::faults::faulty_sheet;
+use compare::fund_calls::{random_fund_call, FundCall};
 use compare::groups::random_group;
 use compare::record::{head, record_of};
 use compare::rng::Rng;
@@ -112,6 +113,20 @@ fn charges() {
             compare::charges::fixed_charges_into(sheet, model, amounts, &mut plain),
         );
         assert_eq!(copy, plain);
+    }
+}
+
+#[test]
+fn funds() {
+    let mut rng = Rng::new(5);
+    for _ in 0..8_000 {
+        let call = random_fund_call(&mut rng);
+        let mut copy = call.balance();
+        let answer = match &call {
+            FundCall::Collect(call) => wrong::fund::collect_fees(&mut copy, &call.sheet, call.rate),
+            FundCall::Pay(call) => wrong::fund::pay_out(&mut copy, call.amount),
+        };
+        same((answer, copy), call.run());
     }
 }
 

@@ -9,6 +9,7 @@ mod cases;
 mod charges;
 #[cfg(feature = "division")]
 mod divisions;
+mod funds;
 mod groups;
 mod lists;
 mod settling;
@@ -108,6 +109,7 @@ pub fn run(seed: u64) {
     settling::run(seed);
     groups::run(seed);
     charges::run(seed);
+    funds::run(seed);
     lists::run(seed);
     #[cfg(feature = "division")]
     divisions::run(seed);

@@ -36,15 +36,6 @@ fn other_model_right(model: u32) -> bool {
     !(MODEL_1S..=MODEL_2S).contains(&model)
 }
 
-/// The sheet's own refusal.
-pub fn of_sheet(checked: Result<(), Refusal>) -> Result<(), Refusal> {
-    match (current(), checked) {
-        (Some(ChargeClashPasses), Err(refusal)) if refusal.number == FIELD_CONFLICT => Ok(()),
-        (Some(ChargeSheetPlaceZero), Err(refusal)) => refuse(refusal.number),
-        _ => checked,
-    }
-}
-
 /// The call's model as it is taken.
 pub fn taken_model(model: u32) -> u32 {
     match current() {

@@ -6,6 +6,8 @@ pub mod book;
 pub mod charges;
 pub mod difference;
 pub mod dividing;
+pub mod fees;
+pub mod fund;
 pub mod group;
 pub mod group_bill;
 pub mod header;

@@ -66,6 +66,19 @@ pub fn length(bytes: &[u8], unit_bytes: usize) -> Option<usize> {
     }
 }
 
+/// A sheet's own refusal in a call beside settling, where 20 passes by one reading
+/// and all places are 0 by the other.
+pub fn own_refusal(
+    checked: Result<(), Refusal>,
+    [clash_passes, place_zero]: [Reading; 2],
+) -> Result<(), Refusal> {
+    match checked {
+        Err(refusal) if refusal.number == FIELD_CONFLICT && misread(clash_passes) => Ok(()),
+        Err(refusal) if misread(place_zero) => refuse(refusal.number),
+        _ => checked,
+    }
+}
+
 /// Whether 20 refuses a sheet and waits by this reading.
 pub fn clash_after(reading: Reading, sheet: &[u8]) -> bool {
     let refused = || check(sheet, ROW_BYTES).err();
