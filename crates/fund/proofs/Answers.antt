@@ -8,24 +8,21 @@ use Rattle.sheet.specs.declared.refusal.Refusal.{Refusal}
 use Rattle.sheet.specs.declared.refusal.Refusal.TheVariants.{FundShort, RateTooHigh, FundFull}
 use Rattle.sheet.specs.Refusals.{Outcome, first_refusal}
 use Rattle.sheet.specs.Layout.{sheet_of}
-use Rattle.sheet.specs.Check.{sheet_rules, checked}
-use Rattle.sheet.proofs.Rules.{or_else, first_of_both, first-refused, first-accepted}
+use Rattle.sheet.specs.Check.{checked}
+use Rattle.sheet.proofs.Rules.{first-refused, first-accepted}
 use Rattle.month.specs.Month.{month_rules, settle_rules}
+use Rattle.month.proofs.Accepted.{settle-in_order}
 use Rattle.fund.specs.Fees.{month_fees}
 use Rattle.fund.specs.Answer.{collect_rules, collect_answer, collected, pay_answer, paid_out}
 
 -- ---- 1 to 12
 module _ (bytes : List ℕ) where
-  month_answer : first_refusal (settle_rules bytes) ≡ or_else (checked 32 bytes) (first_refusal (month_rules (sheet_of bytes)))
-  unfolding settle_rules checked
-  month_answer = first_of_both (sheet_rules 32 bytes) (month_rules (sheet_of bytes))
-
   pub sheet_refused : {r : Refusal} → checked 32 bytes ≡ Err r → first_refusal (settle_rules bytes) ≡ Err r
-  sheet_refused e = month_answer ∙ rw e refl
+  sheet_refused e = settle-in_order bytes ∙ rw e refl
 
   -- by the bytes of its view
   pub as_month : checked 32 bytes ≡ Ok tt → {shown : List ℕ} → shown ≡ bytes → {o : Outcome} → first_refusal (month_rules (sheet_of shown)) ≡ o → first_refusal (settle_rules bytes) ≡ o
-  as_month passed same e = month_answer ∙ rw (passed, ← same) e
+  as_month passed same e = settle-in_order bytes ∙ rw (passed, ← same) e
 
 -- ---- a month's fees
 module _ (balance : ℕ) (bytes : List ℕ) (rate : ℕ) where

@@ -2,17 +2,15 @@
 use mathlib.Core.Path.{◌≡◌, refl, sym, ap, ap₂, ◌∙◌}
 use mathlib.Core.Bool.{Bool}
 use mathlib.Core.Logic.{inl, inr}
-use mathlib.Core.List.{[], ◌∷◌, ◌++◌, map, map-append}
+use mathlib.Core.List.{[], ◌∷◌, ◌++◌}
 use Prim.Native.Nat.{ℕ, zero, suc, ◌+◌, ◌^◌, ◌≤◌, ◌<◌}
 use native.Mathlib.Omega.{arith}
 use borrow.Author.Tests.{ltb-false, le-leb, lt-leb, leb-true, leb-false}
 use lib.Dec.{leb, ltb}
 use native.Mathlib.Decide.{dec_lt}
 use lib.ListN.{length, take, length-append}
-use Rattle.std.proofs.lemmas.List.{take-append-le}
-use lib.Seq.{take_all}
+use lib.Seq.{take_all, take-append-le}
 use Rattle.std.specs.Prelude.{Ok, Err}
-use Rattle.apportion.specs.Shares.{sum}
 use Rattle.sheet.specs.declared.refusal.Refusal.{Refusal}
 use Rattle.sheet.specs.declared.refusal.Refusal.TheVariants.{FundShort}
 use Rattle.sheet.specs.Refusals.{Outcome, ◌⇒◌, first_refusal, afterwards}
@@ -20,16 +18,13 @@ use Rattle.sheet.specs.Layout.{sheet_of}
 use Rattle.sheet.proofs.Chains.{all_follow}
 use Rattle.sheet.proofs.Passed.{none-holds, none_of-both}
 use Rattle.month.specs.Month.{settle_rules}
-use Rattle.month.proofs.Lists.{decided, sum_append}
+use Rattle.month.proofs.Lists.{decided, sum-next}
 use Rattle.fund.specs.Fees.{month_fees}
 use Rattle.fund.specs.Answer.{collect_rules, past_64_bits, collect_answer, collected, pay_answer, paid_out}
 use Rattle.fund.specs.PlainFund.{Call, collect, pay, PlainFund, new_fund, fees_of, payment_of, accepted_fees, accepted_payments, rules_of, called}
 use Rattle.fund.specs.Theorem.{fund_answer, fund_after, Answered, Balanced, EveryListOfCalls}
 
--- ---- sums over one call more; a test with the same added on both sides
-over-next : (f : Call → ℕ) (p : PlainFund) (c : Call) → sum (map f (p ++ c ∷ [])) ≡ sum (map f p) + f c
-over-next f p c = ap sum (map-append f p (c ∷ [])) ∙ sum_append (map f p) (f c ∷ []) ∙ omega arith
-
+-- a test with the same added on both sides
 leb-shift : (k x y : ℕ) → leb x y ≡ leb (x + k) (y + k)
 leb-shift k x y = elim (decided (leb x y)) [
   | inl e ↦ e ∙ sym (le-leb (x + k) (y + k) (omega (arith, leb-true x y e)))
@@ -52,9 +47,9 @@ module _ {balance : ℕ} {p : PlainFund} (b : Balanced balance p) where
   -- ---- what it leaves
   kept : (c : Call) (after : ℕ) → after + payment_of c ≡ balance + fees_of c → after < 2 ^ 64 → Balanced after (p ++ c ∷ [])
   kept c after e fits = record {
-    balance_is = omega (arith, over-next fees_of p c, over-next payment_of p c, e, b.balance_is);
+    balance_is = omega (arith, sum-next fees_of p c, sum-next payment_of p c, e, b.balance_is);
     never_below_0 = λ k. elim (dec_lt (length p) k) [
-      | yes h ↦ rw (take_all k (p ++ c ∷ []) (omega (arith, length-append p (c ∷ [])))) (omega (arith, over-next fees_of p c, over-next payment_of p c, e, b.balance_is))
+      | yes h ↦ rw (take_all k (p ++ c ∷ []) (omega (arith, length-append p (c ∷ [])))) (omega (arith, sum-next fees_of p c, sum-next payment_of p c, e, b.balance_is))
       | no h ↦ rw (take-append-le k p (c ∷ []) (omega arith)) (b.never_below_0 k)
     ];
     fits_64_bits = fits;

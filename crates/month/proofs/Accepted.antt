@@ -19,6 +19,7 @@ use Rattle.sheet.specs.RuleSets.{limits_risers}
 use Rattle.sheet.specs.Layout.{UnitRow, Sheet, sheet_of}
 use Rattle.sheet.specs.Check.{sheet_rules, checked}
 use Rattle.sheet.specs.Inner.Fits.{UnitFits, Fits}
+use Rattle.sheet.proofs.Rules.{or_else, first_of_both}
 use Rattle.sheet.proofs.Passed.{none-holds, holds-none, none_of-both, none_of}
 use Rattle.sheet.proofs.Fits.{fits}
 use Rattle.month.specs.Weights.{those, sum_of, is_read, read_units, all_metered, metered_sum, has_pool, total_area, unread_weights, pool_weight, r_by, limited, riser_limited, area_weight, surface_weight, read_weight, read_weights}
@@ -35,6 +36,10 @@ and_false false b e h = absurd (let z : ◌≡◌ {A = ℕ} 0 1 = cc in omega ar
 pub fits-checked : {perUnit : ℕ} {bytes : List ℕ} → Fits perUnit bytes → CheckedSheet (sheet_of bytes)
 unfolding sheet_of
 fits-checked f = record { header = f.header; reading-count = refl; unit_count_lem = f.units_length; units = f.units }
+
+pub settle-in_order : (bytes : List ℕ) → first_refusal (settle_rules bytes) ≡ or_else (checked 32 bytes) (first_refusal (month_rules (sheet_of bytes)))
+unfolding settle_rules checked
+settle-in_order bytes = first_of_both (sheet_rules 32 bytes) (month_rules (sheet_of bytes))
 
 pub month-accepted : (s : Sheet) → CheckedSheet s → first_refusal (month_rules s) ≡ Ok tt → AcceptedSheet s
 unfolding month_rules

@@ -2,7 +2,7 @@
 use mathlib.Core.Path.{◌≡◌, refl, ap, ap₂, ◌∙◌}
 use mathlib.Core.Bool.{Bool, true, false, not}
 use mathlib.Core.Logic.{◌⊎◌, inl, inr}
-use mathlib.Core.List.{List, [], ◌∷◌, ◌++◌, append_assoc}
+use mathlib.Core.List.{List, [], ◌∷◌, ◌++◌, map, map-append, append_assoc}
 use Prim.Native.Nat.{ℕ, zero, suc, ◌+◌, ◌*◌, ◌≤◌, ◌<◌}
 use native.Mathlib.Omega.{arith}
 use lib.ListN.{length, get_or, take, drop, length-append, length-drop, get_or-append}
@@ -26,6 +26,10 @@ decided false = inr refl
 pub sum_append : (xs ys : List ℕ) → sum (xs ++ ys) ≡ sum xs + sum ys
 sum_append [] ys = omega arith
 sum_append (x ∷ xs) ys = omega (arith, sum_append xs ys)
+
+-- one item more
+pub sum-next : {A : Type 0} (f : A → ℕ) (xs : List A) (x : A) → sum (map f (xs ++ (x ∷ []))) ≡ sum (map f xs) + f x
+sum-next f xs x = ap sum (map-append f xs (x ∷ [])) ∙ sum_append (map f xs) (f x ∷ []) ∙ omega arith
 
 -- the first item and the others
 sum_first : (n : ℕ) (xs : List ℕ) → sum (take (suc n) xs) ≡ get_or xs 0 0 + sum (take n (drop 1 xs))

@@ -9,18 +9,19 @@ use Rattle.sheet.specs.declared.refusal.Refusal.{Refusal}
 use Rattle.sheet.specs.declared.refusal.Refusal.TheVariants.{BufferLength}
 use Rattle.sheet.specs.Refusals.{Outcome, first_refusal}
 use Rattle.std.specs.Prelude.{Ok, Err}
-use Rattle.sheet.proofs.Rules.{or_else, first_of_both}
+use Rattle.sheet.proofs.Rules.{or_else}
 use Rattle.sheet.specs.declared.rule_set.RuleSet.{RuleSet}
 use Rattle.sheet.specs.Layout.{Sheet, sheet_of}
-use Rattle.sheet.specs.Check.{sheet_rules, checked}
-use Rattle.month.specs.Month.{settled, statement_of, month_of, month_rules, settle_rules, settled_sheet, unless_refused}
+use Rattle.sheet.specs.Check.{checked}
+use Rattle.month.specs.Month.{settled, statement_of, month_of, month_rules, settled_sheet, unless_refused}
+use Rattle.month.proofs.Accepted.{settle-in_order}
 use Rattle.settlement.specs.Settle.{answer_of, settle_answer, statement_after}
 use Rattle.settlement.specs.Inner.Months.{month_answer, after_month}
 
 -- ---- 1 to 12
 pub settled-in_order : (rules : RuleSet) (bytes : List ℕ) → settled_sheet rules bytes ≡ unless_refused (or_else (checked 32 bytes) (first_refusal (month_rules (sheet_of bytes)))) (month_of rules (sheet_of bytes))
-unfolding settled_sheet settle_rules checked
-settled-in_order rules bytes = ap (λ (o : Outcome). unless_refused o (month_of rules (sheet_of bytes))) (first_of_both (sheet_rules 32 bytes) (month_rules (sheet_of bytes)))
+unfolding settled_sheet
+settled-in_order rules bytes = ap (λ (o : Outcome). unless_refused o (month_of rules (sheet_of bytes))) (settle-in_order bytes)
 
 -- ---- the calls: refused by 1 to 7, or as the month by itself
 module _ (rules : RuleSet) (bytes list : List ℕ) where

@@ -11,10 +11,11 @@ use Rattle.sheet.specs.declared.rule_set.RuleSet.{RuleSet}
 use Rattle.sheet.specs.Layout.{Sheet, sheet_of}
 use Rattle.sheet.specs.Check.{sheet_rules, checked}
 use Rattle.sheet.proofs.Passed.{none-holds, holds-none, none_of-both}
-use Rattle.sheet.proofs.Rules.{or_else, first_of_both}
+use Rattle.sheet.proofs.Rules.{or_else}
 use Rattle.month.specs.Weights.{total_area}
 use Rattle.month.specs.Steps.{whole_wh, heat_parts, energies_with, energies}
 use Rattle.month.specs.Month.{bill_cents, statement_with, statement_of, month_rules, settle_rules}
+use Rattle.month.proofs.Accepted.{settle-in_order}
 use Rattle.month.proofs.Bounds.{sum_bounds}
 use Rattle.month.proofs.DivisionBounds.{common_heat_le}
 use Rattle.month.proofs.Sums.{bill-divisible}
@@ -53,8 +54,8 @@ own_statement {by = by} {s = s} e h b = rw (h.common, b) (ap (λ (r : RuleSet). 
 -- ---- a survey
 module _ (rules : RuleSet) (bytes : List ℕ) where
   in_order : survey_of rules bytes ≡ surveyed rules (sheet_of bytes) (or_else (checked 32 bytes) (first_refusal (month_rules (sheet_of bytes))))
-  unfolding survey_of settle_rules checked
-  in_order = ap (surveyed rules (sheet_of bytes)) (first_of_both (sheet_rules 32 bytes) (month_rules (sheet_of bytes)))
+  unfolding survey_of
+  in_order = ap (surveyed rules (sheet_of bytes)) (settle-in_order bytes)
 
   pub refused-sheet : {r : Refusal} → checked 32 bytes ≡ Err r → Err r ≡ survey_of rules bytes
   refused-sheet e = rw (in_order, e)

@@ -3,7 +3,7 @@ use Rattle.std.specs.Prelude.{if◌then◌else◌}
 use mathlib.Core.Path.{◌≡◌, refl, sym, ap, ◌∙◌}
 use mathlib.Core.Logic.{inl, inr}
 use mathlib.Core.Bool.{Bool, true, false, ◌||◌}
-use mathlib.Core.List.{List, [], ◌∷◌, ◌++◌, map, append-nil}
+use mathlib.Core.List.{List, [], ◌∷◌, ◌++◌, map, map-append, append-nil}
 use Prim.Native.Nat.{ℕ, zero, suc, ◌+◌, ◌*◌, ◌≤◌, ◌<◌}
 use native.Mathlib.Omega.{arith}
 use native.Mathlib.Numerals.{add-one}
@@ -30,10 +30,6 @@ pub bit_le : (t : Bool) → bit t ≤ 1
 bit_le true = omega arith
 bit_le false = omega arith
 
-pub map_append : {A B : Type 0} (f : A → B) (xs ys : List A) → map f (xs ++ ys) ≡ map f xs ++ map f ys
-map_append f [] ys = refl
-map_append f (x ∷ xs) ys = ap (λ r. f x ∷ r) (map_append f xs ys)
-
 those_append : (test : UnitRow → Bool) (xs ys : List UnitRow) → those test (xs ++ ys) ≡ those test xs ++ those test ys
 those_append test [] ys = refl
 those_append test (x ∷ xs) ys =
@@ -45,7 +41,7 @@ module _ (p : UnitRow → Bool) (f : UnitRow → ℕ) where
   chosen us = map f (those p us)
 
   chosen_more : (us : List UnitRow) (u : UnitRow) → chosen (us ++ (u ∷ [])) ≡ chosen us ++ chosen (u ∷ [])
-  chosen_more us u = ap (map f) (those_append p us (u ∷ [])) ∙ map_append f (those p us) (those p (u ∷ []))
+  chosen_more us u = ap (map f) (those_append p us (u ∷ [])) ∙ map-append f (those p us) (those p (u ∷ []))
 
   turn : (out : List ℕ) (m v b : ℕ) (us : List UnitRow) (u : UnitRow) → m < length out → v ≡ f u → b ≡ bit (p u) → take m out ≡ chosen us
       → take (m + b) (set out m v) ≡ chosen (us ++ (u ∷ []))

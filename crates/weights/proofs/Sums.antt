@@ -2,7 +2,7 @@
 use mathlib.Core.Path.{◌≡◌, refl, sym, ◌∙◌}
 use mathlib.Core.Logic.{inl, inr}
 use mathlib.Core.Bool.{Bool, true, false, not, ◌||◌}
-use mathlib.Core.List.{List, [], ◌∷◌, ◌++◌, map}
+use mathlib.Core.List.{List, [], ◌∷◌, ◌++◌}
 use Prim.Native.Nat.{ℕ, ◌+◌, ◌*◌, ◌≤◌}
 use native.Mathlib.Omega.{arith}
 use lib.Dec.{eqb}
@@ -11,12 +11,11 @@ use Rattle.sheet.specs.Layout.{UnitRow, Sheet}
 use Rattle.sheet.specs.Inner.Fits.{UnitFits}
 use Rattle.sheet.specs.Tests.{Each}
 use Rattle.month.specs.Weights.{those, sum_of, is_read, has_no_device, unread_weight, total_area, unread_weights, read_area, read_surface, reading_sum, units_of_class, litres_of_class1, persons_of_class2}
-use Rattle.month.proofs.Lists.{decided, sum_append}
+use Rattle.month.proofs.Lists.{decided, sum-next}
 use Rattle.month.proofs.Accepted.{sum-those}
 use Rattle.month.proofs.Bounds.{sum-at_most, three_le}
 use Rattle.weights.specs.Inner.Totals.{only_if, of_unit, plus_totals, totals_in, Within}
 use Rattle.weights.specs.declared.totals.Totals.{Totals}
-use Rattle.weights.proofs.Rows.{map_append}
 
 -- the sums of some units
 pub record Sums (s : Sheet) (us : List UnitRow) (t : Totals) : Type 0 where
@@ -34,7 +33,7 @@ pub record Sums (s : Sheet) (us : List UnitRow) (t : Totals) : Type 0 where
   pub readings : t.readings ≡ sum_of (λ u. (of_unit s u).readings) us
 
 more : (f : UnitRow → ℕ) (us : List UnitRow) (u : UnitRow) {x : ℕ} → x ≡ sum_of f us → x + f u ≡ sum_of f (us ++ (u ∷ []))
-more f us u e = rw (map_append f us (u ∷ [])) (omega (arith, e, sum_append (map f us) (f u ∷ [])))
+more f us u e = omega (arith, e, sum-next f us u)
 
 pub sums_next : (s : Sheet) (us : List UnitRow) (u : UnitRow) (t : Totals) → Sums s us t → Sums s (us ++ (u ∷ [])) (plus_totals t (of_unit s u))
 sums_next s us u t h = record {

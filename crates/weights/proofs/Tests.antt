@@ -2,7 +2,7 @@
 use mathlib.Core.Path.{◌≡◌, refl, sym, ap, ◌∙◌}
 use mathlib.Core.Bool.{◌&&◌}
 use mathlib.Core.Logic.{inl, inr}
-use mathlib.Core.List.{List, [], ◌∷◌, ◌++◌, map, map-append}
+use mathlib.Core.List.{List, [], ◌∷◌, map}
 use Prim.Native.Nat.compare
 use Prim.Native.Nat.{ℕ, suc, ◌+◌, ◌≤◌, ◌<◌}
 use native.Mathlib.Omega.{arith}
@@ -21,7 +21,7 @@ use Rattle.std.specs.Prelude.{Option, Some, None, IfSome}
 use Rattle.sheet.specs.WattHours.{highest_wh, wh_in, amount_of}
 use Rattle.month.specs.Weights.{those, sum_of, is_read, all_metered, metered_sum}
 use Rattle.month.specs.Month.{zero_water_divisor, zero_divisor, hot_water_wh}
-use Rattle.month.proofs.Lists.{decided, sum_append, each_take}
+use Rattle.month.proofs.Lists.{decided, sum-next, each_take}
 use Rattle.month.proofs.Bounds.{those-fewer, sum-at_most}
 use Rattle.weights.specs.Inner.Metered.{metered_heat}
 use Rattle.weights.specs.Inner.Totals.{totals_in}
@@ -50,10 +50,6 @@ all_read (u ∷ us) = elim (decided (is_read u)) [
   | inl e ↦ rw (e, compare.suc-suc) (all_read us)
   | inr e ↦ rw e (ne_eqb (length (those is_read us)) (suc (length us)) (λ z. omega (arith, those-fewer is_read us)))
 ]
-
--- one reading more
-pub sum-next : (f : UnitRow → ℕ) (us : List UnitRow) (u : UnitRow) → sum_of f (us ++ (u ∷ [])) ≡ sum_of f us + f u
-sum-next f us u = ap sum (map-append f us (u ∷ [])) ∙ sum_append (map f us) (f u ∷ []) ∙ omega arith
 
 -- ---- C, which never goes over
 pub amount_is : (x : ℕ) (w : Wh) → x ≤ highest_wh → amount_of x ≡ Some w → wh_in w ≡ x

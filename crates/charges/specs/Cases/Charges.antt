@@ -5,12 +5,12 @@ use Rattle.apportion.specs.Shares.{shares_by}
 use Rattle.sheet.specs.Tests.{all, any}
 use Rattle.sheet.specs.declared.refusal.Refusal.{Refusal}
 use Rattle.sheet.specs.declared.refusal.Refusal.TheVariants.{TooShort, BadMagic, UnsupportedVersion, HeaderField, WrongLength, RowField, IdOrder, HotWaterExceedsMeter, ZeroDivisor, NoReadings, MetersExceedHeat, UnmeteredExceedsHeat, BufferLength, FieldConflict}
-use Rattle.sheet.specs.Refusals.{Outcome, place_of, first_refusal}
+use Rattle.sheet.specs.Refusals.{Outcome, first_refusal}
 use Rattle.sheet.specs.declared.rule_set.RuleSet.{RuleSet}
 use Rattle.sheet.specs.declared.rule_set.RuleSet.TheVariants.{Archive1, Archive2, Archive3}
 use Rattle.sheet.specs.Layout.{in_bytes, unit_row, rows, sheet_of}
 use Rattle.sheet.specs.Check.{header_tests, row_tests, field_rules, row_rules, sheet_rules}
-use Rattle.sheet.specs.Cases.Samples.{put, unit_bytes, joined, sheet_bytes, simple, sized, good, order, watered, unsettled, by_ties}
+use Rattle.sheet.specs.Cases.Samples.{put, unit_bytes, joined, sheet_bytes, simple, sized, good, order, watered, unsettled, by_ties, place_by}
 use Rattle.month.specs.Weights.{all_metered, metered_sum, has_pool, total_area, unread_weight, unread_weights, read_surface, units_of_class, litres_of_class1, persons_of_class2}
 use Rattle.month.specs.Steps.{split_by, hot_water, space_heat, heat_parts}
 use Rattle.month.specs.Month.{hot_water_wh, space_heat_wh, zero_water_divisor, zero_divisor, month_rules, settle_rules}
@@ -54,10 +54,6 @@ record Reply : Type 0 where
   outcome : Outcome
   place : ℕ
   list : List ℕ
-
-abbrev place_by : Outcome → ℕ
-place_by (Ok tt) = 0
-place_by (Err r) = place_of r
 
 -- the list lent
 sevens : ℕ → List ℕ

@@ -4,10 +4,10 @@ use Rattle.apportion.specs.Shares.{shares_by}
 use Rattle.sheet.specs.Tests.{all, any}
 use Rattle.sheet.specs.declared.refusal.Refusal.{Refusal}
 use Rattle.sheet.specs.declared.refusal.Refusal.TheVariants.{TooShort, BadMagic, UnsupportedVersion, HeaderField, WrongLength, RowField, IdOrder, HotWaterExceedsMeter, ZeroDivisor, NoReadings, MetersExceedHeat, UnmeteredExceedsHeat, FieldConflict, FundShort, RateTooHigh, FundFull}
-use Rattle.sheet.specs.Refusals.{Outcome, place_of, first_refusal}
+use Rattle.sheet.specs.Refusals.{Outcome, first_refusal}
 use Rattle.sheet.specs.Layout.{in_bytes, unit_row, rows, sheet_of}
 use Rattle.sheet.specs.Check.{header_tests, row_tests, field_rules, row_rules, sheet_rules}
-use Rattle.sheet.specs.Cases.Samples.{zeros, put, unit_bytes, joined, sheet_bytes, simple, good, order, sheet_a, pair, unsettled}
+use Rattle.sheet.specs.Cases.Samples.{zeros, put, unit_bytes, joined, sheet_bytes, simple, good, order, sheet_a, pair, unsettled, place_by}
 use Rattle.month.specs.Weights.{all_metered, metered_sum, has_pool, total_area, unread_weight, unread_weights, read_surface, units_of_class, litres_of_class1, persons_of_class2}
 use Rattle.month.specs.Steps.{split_by, hot_water, space_heat, heat_parts}
 use Rattle.month.specs.Month.{hot_water_wh, space_heat_wh, zero_water_divisor, zero_divisor, month_rules, settle_rules}
@@ -32,10 +32,6 @@ record Reply : Type 0 where
   outcome : Outcome
   place : ℕ
   balance : ℕ
-
-abbrev place_by : Outcome → ℕ
-place_by (Ok tt) = 0
-place_by (Err r) = place_of r
 
 abbrev reply : Outcome → ℕ → Reply
 reply answer after = record { outcome = answer; place = place_by answer; balance = after }

@@ -1,5 +1,6 @@
 -- Sheets written field by field, and changed byte by byte, for computed cases; and what they give by the rules of each archive version.
-use Rattle.std.specs.Prelude.{List, [], ◌∷◌, ◌++◌, ℕ, length, set, replicate}
+use Rattle.std.specs.Prelude.{List, [], ◌∷◌, ◌++◌, ℕ, length, set, replicate, Ok, Err}
+use Rattle.sheet.specs.Refusals.{Outcome, place_of}
 use Rattle.sheet.specs.declared.rule_set.RuleSet.{RuleSet}
 use Rattle.sheet.specs.declared.rule_set.RuleSet.TheVariants.{Archive1, Archive2, Archive3}
 use Rattle.sheet.specs.Layout.{bytes16, bytes32, in_bytes}
@@ -77,6 +78,11 @@ unsettled =
     ∷ sheet_bytes 1 5 0 0 0 0 30 0 1000 10000 (zeros 6) (pair 0 1001 0 0)
     ∷ sheet_a 31 (pair 1 0 0 300)
     ∷ []
+
+-- the place that an answer returns
+abbrev pub place_by : Outcome → ℕ
+place_by (Ok tt) = 0
+place_by (Err r) = place_of r
 
 -- without the limits of model 4 by version 1, with them by the later ones (2026-01)
 abbrev pub by_limits : {A : Type 0} → RuleSet → (without limited : A) → A

@@ -10,7 +10,7 @@ use Rattle.sheet.specs.Inner.Fields.{unit_of}
 use Rattle.sheet.proofs.RowViews.{row_turn, row_end}
 use Rattle.sheet.proofs.Units.{units-next}
 use Rattle.month.specs.Weights.{sum_of}
-use Rattle.weights.proofs.Tests.{sum-next}
+use Rattle.month.proofs.Lists.{sum-next}
 use Rattle.fund.specs.Inner.Fees.{unit_fee}
 use Rattle.fund.proofs.ByUnit.{fees-by_unit}
 use Rattle.fund.proofs.fees.month_fees.Goals as goal
