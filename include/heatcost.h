@@ -31,7 +31,7 @@
  *
  * Memory. No call uses the heap: memcpy and memset are all that the library needs from outside (`nm -u`). A call takes
  * at most HEATCOST_STACK bytes of stack: settling 18,100, a group 20,000, charges 4,900; printing, writing or reading a
- * record, posting and replacing 23,400; withdrawing 5,300; opening, the year call and the calls on a fund 500.
+ * record, posting and replacing 23,400; withdrawing 5,300; opening and the year call 300; the calls on a fund 500.
  * `compare/run stack` measures this on a painted stack. The caller's own frames come on top, and what the system needs:
  * a thread's own block, a first lookup of memcpy or memset.
  */

@@ -9,8 +9,8 @@ use super::narrowing::{Cut, Leftover};
 pub struct Bracket {
     pub lo: u64,
     pub hi: u64,
-    // As the counts say, which nothing is proved of.
-    pub holds: u32,
+    // Keys that reach lo, as the counts say, which nothing is proved of.
+    pub holds: u64,
     ghost ordered: { lo ≤ hi },
 }
 
@@ -83,10 +83,16 @@ impl<'a> Leftover<'a> {
         tally(self.keys, shift, &mut counts);
         let b = highest(&counts, self.left);
         let lo = (b << shift).clamp(self.lo, self.hi);
+        // The first bracket's count has the keys below lo too, which are zeros.
+        let zeros = if b == 0 {
+            (self.keys.len() as u64).saturating_sub(self.reach)
+        } else {
+            0
+        };
         Bracket {
             lo,
             hi: ((b + 1) << shift).clamp(lo, self.hi),
-            holds: counts[b as usize],
+            holds: u64::from(counts[b as usize]).saturating_sub(zeros),
         }
     }
 

@@ -1,5 +1,5 @@
 -- What is answered of a text, and what becomes of the list. Assumes nothing.
-use mathlib.Core.Path.{◌≡◌, refl, sym, ap, ◌∙◌}
+use mathlib.Core.Path.{◌≡◌, refl, sym, ap, subst, ◌∙◌}
 use mathlib.Core.List.{List, ◌++◌}
 use Prim.Native.Nat.{ℕ, ◌*◌, ◌≤◌, ◌<◌}
 use native.Mathlib.Omega.{arith}
@@ -37,9 +37,20 @@ pub outcome_short : (o : Result SettledMonth Refusal) → length (text_of (settl
 outcome_short (Ok month) = month.short
 outcome_short (Err r) = refusal_short r
 
-pub printed-is : (bytes : List ℕ) (x : Settled) → x ≡ settled_sheet newest bytes → text_of x ≡ printed bytes
-unfolding printed
-printed-is bytes x e = ap text_of e
+pub outcome_fits : (o : Result SettledMonth Refusal) → longest (settled_in o) ≤ 15889
+unfolding month_of
+outcome_fits (Ok month) = omega (arith, month.sheet.fits.header.unit_count)
+outcome_fits (Err r) = omega arith
+
+-- what is answered and left of what the bytes settle to
+module _ (bytes : List ℕ) (x : Settled) (is : x ≡ settled_sheet newest bytes) where
+  pub printed-long : {k : ℕ} → (k ≡ length (text_of x)) × (k ≤ longest x) → (k ≡ length (printed bytes)) × (k ≤ longest (settled_sheet newest bytes))
+  unfolding printed
+  printed-long {k} h = subst (λ (y : Settled). (k ≡ length (text_of y)) × (k ≤ longest y)) is h
+
+  pub printed-at_front : {after : List ℕ} (list : List ℕ) → after ≡ at_front (text_of x) list → after ≡ at_front (printed bytes) list
+  unfolding printed
+  printed-at_front list h = h ∙ ap (λ (y : Settled). at_front (text_of y) list) is
 
 -- ---- which text: 1 to 7, then 8 to 12 by way of a list of 8n numbers
 pub refused-sheet : (bytes : List ℕ) (r : Refusal) → checked 32 bytes ≡ Err r → settled_sheet newest bytes ≡ refused r

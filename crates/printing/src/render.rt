@@ -72,7 +72,8 @@ fn put_month<S: Sink>(sink: &mut S, month: SettledMonth<'_>)
     put_units(sink, month);
 }
 
-// The text of a settled or refused sheet.
+// The text of a settled or refused sheet. Inlined as `print_outcome` is.
+#[inline(always)]
 pub(crate) fn put_text<S: Sink>(sink: &mut S, outcome: Result<SettledMonth<'_>, Refusal>)
     requires { length (text_of (settled_in outcome)) ≤ S.left sink.old }
     ensures { S.took sink.old (text_of (settled_in outcome.entry)) sink.new }

@@ -18,16 +18,20 @@ pub(crate) struct SettledMonth<'a> {
 }
 
 impl<'a> SettledMonth<'a> {
+    ghost use Rattle.std.specs.Prelude.{IsOk};
+    ghost use Rattle.sheet.specs.Check.{checked};
+    ghost use Rattle.printing.specs.Inner.Placed.{AreBytes};
     ghost use Rattle.printing.specs.Inner.Outcomes.{settled_in};
 
-    // Any bytes, by the newest rules. The statement stands at the room's front.
+    // A sheet that passes 1 to 7, by the newest rules. The statement stands at the room's front.
     pub(crate) fn settle(
-        bytes: &'a [u8],
+        sheet: Sheet<'a>,
         room: &'a mut [u32; 1280],
     ) -> Result<SettledMonth<'a>, Refusal>
-        ensures { settled_in result ≡ settled_sheet newest bytes.now }
+        requires bytes { AreBytes sheet.bytes.now }
+        requires passed { IsOk (checked 32 sheet.bytes.now) }
+        ensures { settled_in result ≡ settled_sheet newest sheet.entry.bytes.now }
     {
-        let sheet = Sheet::check(bytes)?;
         let statement = &mut room[..8 * sheet.unit_count()];
         settlement::settle_checked(sheet::NEWEST, sheet, statement)?;
         Ok(SettledMonth { sheet, statement })

@@ -7,6 +7,7 @@ pub mod Chains
 pub mod RowViews
 pub mod Units
 pub mod Fits
+pub mod Amounts
 pub mod Verdict
 mod Fields
 mod Narrow

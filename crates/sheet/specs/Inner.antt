@@ -5,4 +5,5 @@ pub mod FieldRanges
 pub mod Fits
 pub mod Places
 pub mod Rows
+pub mod Sums
 pub mod Views

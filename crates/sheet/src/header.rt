@@ -1,13 +1,14 @@
 // The header (document 01, "The sheet"): its fields after the version.
-ghost use Rattle.std.specs.Prelude.{◌≡◌, map, ◌≤◌, length};
+ghost use Rattle.std.specs.Prelude.{◌≡◌, true, false, map, ◌≤◌, length, MatchResult};
+ghost use Rattle.sheet.specs.declared.refusal.Refusal.TheVariants.{HeaderField};
 ghost use Rattle.sheet.specs.Refusals.{first_refusal};
 ghost use Rattle.sheet.specs.Layout.{sheet_of};
-ghost use Rattle.sheet.specs.Check.{header_tests, header_rule};
+ghost use Rattle.sheet.specs.Check.{passes, ◌within◌, header_tests, header_rule};
 ghost use Rattle.sheet.specs.Inner.Fields.{header_field};
 ghost use Rattle.sheet.specs.Inner.FieldRanges.{header_offset};
 
 use crate::bytes::{read8, read16, read32};
-use crate::ranges;
+use crate::ranges::{self, Range};
 use crate::refusal::Refusal;
 
 // In layout order.
@@ -99,16 +100,28 @@ pub fn header_field(s: &[u8], field: Field) -> u32
     }
 }
 
-// 4: the first field that isn't within its range.
+// 4 of one field.
+fn check_field(s: &[u8], field: Field, range: Range) -> Result<(), Refusal>
+    requires { 48 ≤ length s.now }
+    ensures { let passed = passes (header_field (sheet_of s.now) field within range) in MatchResult result (λ done. passed ≡ true) (λ r. (passed ≡ false) × (r ≡ HeaderField (header_offset field))) }
+{
+    if !range.contains(header_field(s, field)) {
+        return Err(Refusal::HeaderField(field.offset() as u32));
+    }
+    Ok(())
+}
+
+// 4: the first field that isn't within its range. The compiler unrolls loops of at most ten turns, and then the ranges take no stack.
 pub(crate) fn check_header(s: &[u8]) -> Result<(), Refusal>
     requires { 48 ≤ length s.now }
     ensures { result ≡ first_refusal (map header_rule (header_tests (sheet_of s.now))) }
 {
     let ranges = ranges::header_ranges(s);
-    for (k, &field) in FIELDS.iter().enumerate() {
-        if !ranges[k].contains(header_field(s, field)) {
-            return Err(Refusal::HeaderField(field.offset() as u32));
-        }
+    for k in 0..9 {
+        check_field(s, FIELDS[k], ranges[k])?;
+    }
+    for k in 9..17 {
+        check_field(s, FIELDS[k], ranges[k])?;
     }
     Ok(())
 }

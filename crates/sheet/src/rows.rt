@@ -1,7 +1,7 @@
 // The unit rows (document 01, "The sheet"): the fields of a row.
-ghost use Rattle.std.specs.Prelude.{◌≡◌, ◌+◌, ◌*◌, ◌≤◌, ◌<◌, length};
+ghost use Rattle.std.specs.Prelude.{◌≡◌, ◌+◌, ◌*◌, ◌≤◌, ◌<◌, length, get_or};
 ghost use Rattle.sheet.specs.Layout.{sheet_of};
-ghost use Rattle.sheet.specs.Inner.Fields.{row_field, unit_row_at, unit_of, field_at};
+ghost use Rattle.sheet.specs.Inner.Fields.{row_field, row_fields, unit_row_at, unit_of, field_at};
 
 use crate::bytes::{read8, read16, read32};
 
@@ -70,6 +70,14 @@ pub fn row_field(s: &[u8], at: usize, k: usize) -> u32
         return 0;
     }
     field_at(s, at, field)
+}
+
+// Field k of unit i; 0 where there is no field k.
+pub fn numbered_field(s: &[u8], i: usize, k: usize) -> u32
+    requires { (i < (sheet_of s.now).unit_count) × (80 + 32 * i ≤ length s.now) }
+    ensures { result ≡ get_or (row_fields (unit_of (sheet_of s.now) i)) k 0 }
+{
+    row_field(s, 48 + 32 * i, k)
 }
 
 // Of unit i, in a sheet that is still being checked.

@@ -1,6 +1,7 @@
 // An amount of Wh (document 01, "Dividing"): its zero, its upper end, its addition.
 ghost use Rattle.std.specs.Prelude.{◌≡◌};
 ghost use Rattle.sheet.specs.WattHours.{wh_in, amount_of, plus_wh};
+ghost use Rattle.sheet.specs.Inner.Sums.{past_sum, wh_in_sum};
 
 // Its number is private: only `of` and `plus` make an amount, and neither makes one past MAX.
 #[derive(Clone, Copy)]
@@ -29,5 +30,25 @@ impl Wh {
         ensures { result ≡ wh_in self }
     {
         u64::from(self.0)
+    }
+
+    // A sum past MAX is past every limit.
+    pub fn sum_past(sum: Option<Wh>, limit: u64) -> bool
+        ensures { result ≡ past_sum sum limit }
+    {
+        match sum {
+            Some(wh) => limit < wh.number(),
+            None => true,
+        }
+    }
+
+    // The number of Wh of a sum, 0 where it is past MAX.
+    pub fn sum_number(sum: Option<Wh>) -> u64
+        ensures { result ≡ wh_in_sum sum }
+    {
+        match sum {
+            Some(wh) => wh.number(),
+            None => 0,
+        }
     }
 }

@@ -17,7 +17,7 @@ use Rattle.sheet.specs.Inner.Fields.{unit_of}
 use Rattle.sheet.specs.Inner.Fits.{Fits, UnitFits}
 use Rattle.sheet.proofs.Units.{units-next}
 use Rattle.sheet.specs.declared.watt_hours.Wh.{Wh}
-use Rattle.std.specs.Prelude.{Option, Some, None, IfSome}
+use Rattle.std.specs.Prelude.{Option, Some, None}
 use Rattle.sheet.specs.WattHours.{highest_wh, wh_in, amount_of}
 use Rattle.month.specs.Weights.{those, sum_of, is_read, all_metered, metered_sum}
 use Rattle.month.specs.Month.{zero_water_divisor, zero_divisor, hot_water_wh}
@@ -93,8 +93,3 @@ module _ (bytes : List ℕ) (f : Fits 32 bytes) (i : ℕ) (h : i < (sheet_of byt
 
   pub next_fits : (sum : ℕ) → sum ≡ sum_of (λ u. u.reading) (take i (sheet_of bytes).units) → sum + x ≤ highest_wh
   next_fits sum e = omega (arith, next_sum sum e, readings_fit bytes f (i + 1))
-
--- the number of an amount that there is
-pub number_is : (x n : ℕ) (a : Option Wh) → x ≤ highest_wh → a ≡ amount_of x → IfSome a (λ w. n ≡ wh_in w) → n ≡ x
-number_is x n (Some w) h e i = i ∙ amount_is x w h (sym e)
-number_is x n None h e i = absurd (some_amount x h (sym e))

@@ -1,8 +1,7 @@
 // A month that none of 8 to 12 refuses.
-ghost use Rattle.std.specs.Prelude.{◌≡◌, IsOk, IfSome};
+ghost use Rattle.std.specs.Prelude.{◌≡◌, IsOk};
 ghost use Rattle.sheet.specs.Layout.{sheet_of};
 ghost use Rattle.sheet.specs.Refusals.{first_refusal};
-ghost use Rattle.sheet.specs.WattHours.{wh_in};
 ghost use Rattle.month.specs.Month.{hot_water_wh, month_rules};
 ghost use Rattle.weights.specs.Inner.Metered.{metered_heat};
 
@@ -21,12 +20,6 @@ pub struct Month<'a> {
     pub ghost metered_is: { metered ≡ metered_heat (sheet_of basis.sheet.bytes.now) },
 }
 
-fn number_of(wh: Option<Wh>) -> u64
-    ensures { IfSome wh (λ w. result ≡ wh_in w) }
-{
-    wh.map_or(0, |wh| wh.number())
-}
-
 impl<'a> Month<'a> {
     ghost use Rattle.std.specs.Prelude.{IfOk};
     ghost use Rattle.sheet.specs.Refusals.{outcome_of};
@@ -41,7 +34,7 @@ impl<'a> Month<'a> {
         Ok(Month {
             basis: figures.basis,
             hot_water: figures.hot_water,
-            metered: number_of(figures.metered),
+            metered: Wh::sum_number(figures.metered),
         })
     }
 }

@@ -95,10 +95,7 @@ impl<'a> Figures<'a> {
         ensures { result ≡ (all_metered (sheet_of self.now.basis.sheet.bytes.now) && ltb (space_heat_wh (sheet_of self.now.basis.sheet.bytes.now)) (metered_sum (sheet_of self.now.basis.sheet.bytes.now))) }
     {
         let space_heat = u64::from(self.basis.sheet.header(Field::SharedMeter)) - self.hot_water;
-        match self.metered {
-            Some(metered) => space_heat < metered.number(),
-            None => true,
-        }
+        Wh::sum_past(self.metered, space_heat)
     }
 
     // 8 to 12, in this order.

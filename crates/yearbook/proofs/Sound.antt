@@ -2,14 +2,16 @@
 use mathlib.Core.Path.{◌≡◌, refl, sym, ap, ◌∙◌}
 use mathlib.Core.Bool.{Bool, true, false, not, ◌||◌}
 use mathlib.Core.List.{List, [], ◌∷◌, map}
-use Prim.Native.Nat.{ℕ, ◌+◌, ◌≤◌, ◌<◌}
+use Prim.Native.Nat.{ℕ, ◌≤◌, ◌<◌}
 use native.Mathlib.Omega.{arith}
 use lib.Dec.{ltb, eqb}
 use borrow.Author.Tests.{lt-ltb, le-ltb, ltb-false, eq-eqb, ne_eqb, eqb-true, not-false}
 use lib.ListN.{length, get_or, take, drop, length-take, length-drop, length-map, get_or-map}
 use lib.Seq.{get_or-take, get_or-drop}
 use Rattle.std.specs.Prelude.{if◌then◌else◌}
-use Rattle.std.specs.List.{list_any, filter}
+use Rattle.std.specs.List.{list_any, sum_by}
+use Rattle.std.proofs.lemmas.List.Recursion.{is_sum_by}
+use Rattle.std.proofs.lemmas.List.Sums.{sum_by-le-sum_by}
 use Rattle.sheet.specs.Tests.{any}
 use Rattle.month.specs.Laws.{sum_to}
 use Rattle.month.proofs.Lists.{sum_to-front, sum_to_cong}
@@ -22,16 +24,18 @@ unfolding any
 any_is p [] = refl
 any_is p (x ∷ xs) = ap (λ t. p x || t) (any_is p xs)
 
--- k, counted mark by mark
-count_is : (xs : List ℕ) → length (filter (λ x. eqb x 1) xs) ≡ sum_to (length xs) (λ i. if_marked (get_or xs i 0) 1)
+-- k, added mark by mark
+count_is : (xs : List ℕ) → sum_by (λ x. if_marked x 1) xs ≡ sum_to (length xs) (λ i. if_marked (get_or xs i 0) 1)
 unfolding sum_to
-count_is [] = refl
-count_is (x ∷ xs) = rw (sum_to-front (length xs) (λ i. if_marked (get_or (x ∷ xs) i 0) 1)) (one-more (eqb x 1) xs (count_is xs))
+count_is xs =
+    sym (is_sum_by (λ xs. sum_to (length xs) (λ i. if_marked (get_or xs i 0) 1)) (λ x. if_marked x 1) refl (λ x xs. sum_to-front (length xs) (λ i. if_marked (get_or (x ∷ xs) i 0) 1)) xs)
+
+count-le : (xs : List ℕ) → sum_by (λ x. if_marked x 1) xs ≤ length xs
+count-le xs = omega (arith, sum_by-le-sum_by (λ x. if_marked x 1) (λ x. 1) xs (λ x. one (eqb x 1)), is_sum_by length (λ x. 1) refl (λ x xs. omega arith) xs)
   where
-    one-more : (t : Bool) (xs : List ℕ) → length (filter (λ x. eqb x 1) xs) ≡ sum_to (length xs) (λ i. if_marked (get_or xs i 0) 1)
-        → length (if t then x ∷ filter (λ x. eqb x 1) xs else filter (λ x. eqb x 1) xs) ≡ (if t then 1 else 0) + sum_to (length xs) (λ i. if_marked (get_or xs i 0) 1)
-    one-more true xs e = omega arith
-    one-more false xs e = omega arith
+    one : (t : Bool) → (if t then 1 else 0) ≤ 1
+    one true = omega arith
+    one false = omega arith
 
 module _ (b : List ℕ) where
   -- the marks one by one
@@ -42,11 +46,14 @@ module _ (b : List ℕ) where
   unfolding marks
   mark_at_lem i h = get_or-take 12 (drop 1 b) i 0 h ∙ get_or-drop 1 b i 0
 
-  pub marks_counted : length b ≡ book_length → length (filter (λ x. eqb x 1) (take 12 (drop 1 b))) ≡ marks_in b
+  pub marks_counted : length b ≡ book_length → sum_by (λ x. if_marked x 1) (take 12 (drop 1 b)) ≡ marks_in b
   unfolding marks_in marks
   marks_counted size =
       let twelve : length (take 12 (drop 1 b)) ≡ 12 = simp (length-take, length-drop) (omega arith) in
       count_is (take 12 (drop 1 b)) ∙ rw twelve (sum_to_cong 12 _ _ (λ i h. ap (λ (x : ℕ). if_marked x 1) (mark_at_lem i h)))
+
+  pub marks-le : sum_by (λ x. if_marked x 1) (take 12 (drop 1 b)) ≤ 12
+  marks-le = omega (arith, count-le (take 12 (drop 1 b)), length-take 12 (drop 1 b))
 
   -- ---- 15, test by test
   pub bad-length : (length b ≡ book_length → ⊥) → bad_book b ≡ true

@@ -66,7 +66,7 @@ impl<'a> Book<'a> {
         ensures { result ≡ marks_in self.entry.numbers.now }
     {
         let marks = &self.numbers[layout::MARKS..layout::METERS];
-        marks.iter().filter(|&&mark| mark == 1).count() as u32
+        marks.iter().map(|&mark| u32::from(mark == 1)).sum()
     }
 
     // 16

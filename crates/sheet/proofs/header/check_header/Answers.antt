@@ -1,28 +1,29 @@
-use mathlib.Core.Path.{◌≡◌, refl, sym, ap, ◌∙◌}
-use Prim.Native.Nat.{ℕ}
+use mathlib.Core.Path.{refl, sym, ap, ◌∙◌}
 use native.Mathlib.Omega.{arith}
 use Rattle.std.specs.Prelude.{Err}
-use Rattle.sheet.specs.declared.refusal.Refusal.TheVariants.{HeaderField}
-use Rattle.sheet.specs.Layout.{sheet_of}
-use Rattle.sheet.specs.Inner.Fields.{header_field}
-use Rattle.sheet.proofs.Walk.{field_at, header-more, header_fault, header-end}
+use Rattle.sheet.proofs.Rules.{handed}
+use Rattle.sheet.proofs.Walk.{header-more, header_fault, header-end}
 use Rattle.sheet.proofs.header.check_header.Goals as goal
 
-pub loop-k-init : goal.loop-k-init
-loop-k-init c = refl
-
-pub returns-then-not-contains : goal.returns-then-not-contains
-returns-then-not-contains c =
-    let fault = sym c.contains.ensures ∙ c.if-not-contains.true in
-    let e : c.header_field.result ≡ header_field (sheet_of c.args.s.now) (field_at c.loop-k.k) = c.header_field.ensures in
-    ap (λ (k : ℕ). Err (HeaderField k)) c.offset.ensures.0
-    ∙ sym (sym c.loop-k.invariant ∙ header_fault c.args.s.now _ c.loop-k.k _ c.header_ranges-ranges.ensures e (omega arith) fault)
+pub returns-in_err-check_field : goal.returns-in_err-check_field
+returns-in_err-check_field c =
+    let no = c.in_err-check_field.ensures in
+    handed _ _ c.from_residual.ensures.1 ∙ ap (λ r. Err r) no.1
+    ∙ sym (sym c.loop-k.invariant ∙ header_fault c.args.s.now _ c.loop-k.k _ c.header_ranges-ranges.ensures refl (omega arith) no.0)
 
 pub loop-k-preserved : goal.loop-k-preserved
 loop-k-preserved c =
-    let pass = sym c.contains.ensures ∙ c.if-not-contains.false in
-    let e : c.header_field.result ≡ header_field (sheet_of c.args.s.now) (field_at c.loop-k.k) = c.header_field.ensures in
-    header-more c.args.s.now _ c.loop-k.k _ c.header_ranges-ranges.ensures e (omega arith) pass ∙ c.loop-k.invariant
+    header-more c.args.s.now _ c.loop-k.k _ c.header_ranges-ranges.ensures refl (omega arith) c.in_ok-check_field.ensures ∙ c.loop-k.invariant
+
+pub returns-in_err-check_field-2 : goal.returns-in_err-check_field-2
+returns-in_err-check_field-2 c =
+    let no = c.in_err-check_field-2.ensures in
+    handed _ _ c.from_residual-in_err-check_field-2.ensures.1 ∙ ap (λ r. Err r) no.1
+    ∙ sym (sym c.loop-k-2.invariant ∙ header_fault c.args.s.now _ c.loop-k-2.k _ c.header_ranges-ranges.ensures refl (omega arith) no.0)
+
+pub loop-k-2-preserved : goal.loop-k-2-preserved
+loop-k-2-preserved c =
+    header-more c.args.s.now _ c.loop-k-2.k _ c.header_ranges-ranges.ensures refl (omega arith) c.in_ok-check_field-2.ensures ∙ c.loop-k-2.invariant
 
 pub returns : goal.returns
-returns c = sym (sym c.loop-k.invariant ∙ header-end c.args.s.now c.loop-k.k (omega arith))
+returns c = sym (sym c.loop-k-2.invariant ∙ header-end c.args.s.now c.loop-k-2.k (omega arith))

@@ -1,11 +1,13 @@
-use mathlib.Core.Path.{refl, sym, subst, ◌∙◌}
+use mathlib.Core.Path.{refl, sym, ap, subst, ◌∙◌}
 use Rattle.std.specs.Prelude.{IsOk}
 use Rattle.sheet.specs.Refusals.{Outcome}
 use Rattle.sheet.specs.Layout.{sheet_of}
+use Rattle.sheet.specs.Inner.Sums.{wh_in_sum}
+use Rattle.sheet.proofs.Amounts.{amount_number}
 use Rattle.month.proofs.Bounds.{sum_bounds}
 use Rattle.weights.specs.Inner.Metered.{metered_heat}
 use Rattle.weights.proofs.Ready.{passes}
-use Rattle.weights.proofs.Tests.{number_is, metered_fits}
+use Rattle.weights.proofs.Tests.{metered_fits}
 use Rattle.weights.proofs.accepted.Month.measure.Goals as goal
 
 pub invariant_of-result : goal.invariant_of-result
@@ -15,5 +17,5 @@ invariant_of-result c =
     record {
       accepted = subst (λ (o : Outcome). IsOk o) (sym (sym c.check.ensures ∙ c.in_ok-check.was)) refl;
       water_is = f.water_is;
-      metered_is = number_is (metered_heat s) c.number_of.result _ (metered_fits s (sum_bounds s (passes f.basis)).metered) f.metered_is c.number_of.ensures;
+      metered_is = c.sum_number.ensures ∙ ap wh_in_sum f.metered_is ∙ amount_number (metered_heat s) (metered_fits s (sum_bounds s (passes f.basis)).metered);
     }
